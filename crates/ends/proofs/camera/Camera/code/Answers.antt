@@ -1,0 +1,60 @@
+use borrow.Author.Needs.{needs}
+use mathlib.Core.Path.{_≡_, sym, ap, subst, _∙_}
+use Prim.Native.Nat.{ℕ}
+use native.Mathlib.Omega.{arith}
+use lib.ListN.{length}
+use mir.Val.{Fits}
+use mir.Syntax.{w32}
+use Rattle.ends.specs.declared.coder.Task.{Task}
+use Rattle.ends.specs.Calls.{task-of}
+use Rattle.ends.specs.Inner.{Ready}
+use Rattle.ends.proofs.Calls.{code-refused, code-width, code-taken}
+use Rattle.ends.proofs.Passed.{code-ready, code-lengths, code-unspent}
+use Rattle.ends.proofs.camera.Camera.code.Needs as need
+
+pub returns-in-Some : need.returns-in-Some
+returns-in-Some g c =
+    code-refused (g .K·Kind .meaning (c .args .kind .now)) (c .args .self .now .end) (c .args .plane .now) (c .args .coding) (c .args .source .now) (c .args .levels .now)
+    (c .in-Some .refusal) (sym (c .in-Some .ensures tt))
+
+pub code-tile-requires : need.code-tile-requires
+code-tile-requires g c κs =
+    let kind = c .args .kind .now in
+    let m = g .K·Kind .meaning kind in
+    let facts = g .K·Kind·met .facts kind in
+    let e = c .args .self .now .end in
+    let plane = c .args .plane .now in
+    let none = sym (c .in-rest .ensures tt) in
+    let is : c .task-of-task .result ≡ task-of (e .size) (m .edge) (c .args .coding) = c .task-of-task .ensures ∙ ap (λ (n : ℕ). task-of (e .size) n (c .args .coding)) (c .edge .ensures) in
+    let lengths = code-lengths m facts e plane (c .args .coding) (c .args .source .now) (c .args .levels .now) none in
+    record {
+      ready = subst (λ (t : Task). Ready t (length plane)) (sym is) (code-ready m facts e plane (c .args .coding) (c .args .source .now) (c .args .levels .now) none);
+      edge = ap (λ (t : Task). t .tile .edge) is;
+      source = lengths .0;
+      levels = lengths .1;
+    }
+
+pub returns-in-rest-code-tile : need.returns-in-rest-code-tile
+returns-in-rest-code-tile g c =
+    let m = g .K·Kind .meaning (c .args .kind .now) in
+    let e = c .args .self .now .end in
+    let h = c .in-rest-code-tile .ensures tt in
+    code-width m e (c .args .plane .now) (c .args .coding) (c .args .source .now) (c .args .levels .now) (sym (c .in-rest .ensures tt))
+    (c .task-of-task .result) (c .task-of-task .ensures ∙ ap (λ (n : ℕ). task-of (e .size) n (c .args .coding)) (c .edge .ensures))
+    _ _ (h .answer) (h .plane) (h .levels)
+
+pub add-self : need.add-self
+add-self g c =
+    let kind = c .args .kind .now in
+    let unspent = code-unspent (g .K·Kind .meaning kind) (g .K·Kind·met .facts kind) (c .args .self .now .end) (c .args .plane .now) (c .args .coding) (c .args .source .now) (c .args .levels .now) (sym (c .in-rest .ensures tt)) in
+    let fits : Fits w32 (c .args .self .now .end .count) = search needs in
+    record { fits = omega arith }
+
+pub returns : need.returns
+returns g c =
+    let m = g .K·Kind .meaning (c .args .kind .now) in
+    let e = c .args .self .now .end in
+    let h = c .in-Ok .ensures tt in
+    code-taken m e (c .args .plane .now) (c .args .coding) (c .args .source .now) (c .args .levels .now) (sym (c .in-rest .ensures tt))
+    (c .task-of-task .result) (c .task-of-task .ensures ∙ ap (λ (n : ℕ). task-of (e .size) n (c .args .coding)) (c .edge .ensures))
+    _ _ _ (h .answer) (h .plane) (h .levels) (c .tag .ensures)

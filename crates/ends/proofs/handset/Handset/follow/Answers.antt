@@ -1,0 +1,58 @@
+use borrow.Author.Needs.{needs}
+use mathlib.Core.Path.{_≡_, sym, ap, subst, _∙_}
+use Prim.Native.Nat.{ℕ}
+use native.Mathlib.Omega.{arith}
+use lib.ListN.{length}
+use mir.Val.{Fits}
+use mir.Syntax.{w32}
+use Rattle.ends.specs.declared.coder.Task.{Task}
+use Rattle.ends.specs.Calls.{task-of}
+use Rattle.ends.specs.Inner.{Ready}
+use Rattle.ends.proofs.Calls.{follow-refused, follow-width, follow-taken}
+use Rattle.ends.proofs.Passed.{follow-ready, follow-length, follow-unspent}
+use Rattle.ends.proofs.handset.Handset.follow.Needs as need
+
+pub returns-in-Some : need.returns-in-Some
+returns-in-Some g c =
+    follow-refused (g .K·Kind .meaning (c .args .kind .now)) (c .args .self .now .end) (c .args .plane .now) (c .args .heading) (c .args .levels .now)
+    (c .in-Some .refusal) (sym (c .in-Some .ensures tt))
+
+pub follow-tile-requires : need.follow-tile-requires
+follow-tile-requires g c κs =
+    let kind = c .args .kind .now in
+    let m = g .K·Kind .meaning kind in
+    let facts = g .K·Kind·met .facts kind in
+    let e = c .args .self .now .end in
+    let plane = c .args .plane .now in
+    let none = sym (c .in-rest .ensures tt) in
+    let is : c .task-of-task .result ≡ task-of (e .size) (m .edge) (c .args .heading .coding) = c .task-of-task .ensures ∙ ap (λ (n : ℕ). task-of (e .size) n (c .args .heading .coding)) (c .edge .ensures) in
+    record {
+      ready = subst (λ (t : Task). Ready t (length plane)) (sym is) (follow-ready m facts e plane (c .args .heading) (c .args .levels .now) none);
+      edge = ap (λ (t : Task). t .tile .edge) is;
+      levels = follow-length m facts e plane (c .args .heading) (c .args .levels .now) none;
+    }
+
+pub returns-in-rest-follow-tile : need.returns-in-rest-follow-tile
+returns-in-rest-follow-tile g c =
+    let m = g .K·Kind .meaning (c .args .kind .now) in
+    let e = c .args .self .now .end in
+    let h = c .in-rest-follow-tile .ensures tt in
+    follow-width m e (c .args .plane .now) (c .args .heading) (c .args .levels .now) (sym (c .in-rest .ensures tt))
+    (c .task-of-task .result) (c .task-of-task .ensures ∙ ap (λ (n : ℕ). task-of (e .size) n (c .args .heading .coding)) (c .edge .ensures))
+    _ (h .answer) (h .plane)
+
+pub add-self : need.add-self
+add-self g c =
+    let kind = c .args .kind .now in
+    let unspent = follow-unspent (g .K·Kind .meaning kind) (g .K·Kind·met .facts kind) (c .args .self .now .end) (c .args .plane .now) (c .args .heading) (c .args .levels .now) (sym (c .in-rest .ensures tt)) in
+    let fits : Fits w32 (c .args .self .now .end .count) = search needs in
+    record { fits = omega arith }
+
+pub returns : need.returns
+returns g c =
+    let m = g .K·Kind .meaning (c .args .kind .now) in
+    let e = c .args .self .now .end in
+    let h = c .in-Ok .ensures tt in
+    follow-taken m e (c .args .plane .now) (c .args .heading) (c .args .levels .now) (sym (c .in-rest .ensures tt))
+    (c .task-of-task .result) (c .task-of-task .ensures ∙ ap (λ (n : ℕ). task-of (e .size) n (c .args .heading .coding)) (c .edge .ensures))
+    _ (h .answer) (h .plane)

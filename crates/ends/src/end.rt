@@ -1,0 +1,25 @@
+// What both ends hold: the size of their plane, and their count.
+ghost use mathlib.Core.Path.{_≡_};
+ghost use Rattle.ends.specs.Calls.{open-call as openCall};
+use crate::plane;
+use crate::plane::Size;
+use crate::refusal::Refusal;
+use crate::rules;
+
+// `count` is the number of the next unit: the camera will give it out, the handset waits for it.
+#[derive(Drop)]
+pub struct End {
+    pub size: Size,
+    pub count: u32,
+}
+
+// An end of the given size and first count, its plane made blank.
+pub fn open(size: Size, first: u32, plane: &mut [u8]) -> Result<End, Refusal>
+    ensures { λ r. ⌜ openCall size first (now (plane .entry)) ≡ record { answer = r; plane = now (plane .exit) } ⌝ }
+{
+    if let Some(refusal) = rules::refuse_open(size, plane) {
+        return Err(refusal);
+    }
+    plane::clear(plane);
+    Ok(End { size, count: first })
+}
