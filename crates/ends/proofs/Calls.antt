@@ -68,14 +68,16 @@ module _ (m : Meaning) (e : End) (plane : List ℕ) (c : Coding) (source : List 
         ∙ width-refused (back-of code-task) (b ∙ (λ i. isSome (back-of (is i))))
         ∙ (λ i. record { answer = Err Width; end = e; plane = sym (p ∙ (λ j. stored (is j) plane (back-of (is j)))) i; levels = sym l i })
 
-    pub code-taken : (plane′ : List ℕ) (levels′ : List ℤ) (tag : ℕ) → true ≡ isSome (back-of task) → plane′ ≡ stored task plane (back-of task) → levels′ ≡ code-levels m task plane source → tag ≡ m .tag
-        → code-call m e plane c source room ≡ record { answer = Ok (record { number = e .count; tag = tag; coding = c }); end = end-of (e .size) (e .count + 1); plane = plane′; levels = levels′ }
-    code-taken plane′ levels′ tag b p l t =
+    pub code-taken : (number tag : ℕ) (end : End) (plane′ : List ℕ) (levels′ : List ℤ)
+        → true ≡ isSome (back-of task) → number ≡ e .count → tag ≡ m .tag → end ≡ end-of (e .size) (e .count + 1)
+        → plane′ ≡ stored task plane (back-of task) → levels′ ≡ code-levels m task plane source
+        → code-call m e plane c source room ≡ record { answer = Ok (record { number = number; tag = tag; coding = c }); end = end; plane = plane′; levels = levels′ }
+    code-taken number tag end plane′ levels′ b n t q p l =
         (λ i. code-comes (none i) (back-of code-task))
         ∙ all-taken (back-of code-task) (b ∙ (λ i. isSome (back-of (is i))))
         ∙ (λ i. record {
-          answer = Ok (record { number = e .count; tag = sym t i; coding = c });
-          end = end-of (e .size) (e .count + 1);
+          answer = Ok (record { number = sym n i; tag = sym t i; coding = c });
+          end = sym q i;
           plane = sym (p ∙ (λ j. stored (is j) plane (back-of (is j)))) i;
           levels = sym (l ∙ (λ j. code-levels m (is j) plane source)) i;
         })
@@ -114,12 +116,12 @@ module _ (m : Meaning) (e : End) (plane : List ℕ) (h : Heading) (levels : List
         ∙ width-refused-here (rebuilt-by follow-task) (b ∙ (λ i. isSome (rebuilt-by (is i))))
         ∙ (λ i. record { answer = Err Width; end = e; plane = sym (p ∙ (λ j. stored (is j) plane (rebuilt-by (is j)))) i })
 
-    pub follow-taken : (plane′ : List ℕ) → true ≡ isSome (rebuilt-by task) → plane′ ≡ stored task plane (rebuilt-by task)
-        → follow-call m e plane h levels ≡ record { answer = Ok tt; end = end-of (e .size) (e .count + 1); plane = plane′ }
-    follow-taken plane′ b p =
+    pub follow-taken : (end : End) (plane′ : List ℕ) → true ≡ isSome (rebuilt-by task) → end ≡ end-of (e .size) (e .count + 1) → plane′ ≡ stored task plane (rebuilt-by task)
+        → follow-call m e plane h levels ≡ record { answer = Ok tt; end = end; plane = plane′ }
+    follow-taken end plane′ b q p =
         (λ i. follow-comes (none i) (rebuilt-by follow-task))
         ∙ all-taken-here (rebuilt-by follow-task) (b ∙ (λ i. isSome (rebuilt-by (is i))))
-        ∙ (λ i. record { answer = Ok tt; end = end-of (e .size) (e .count + 1); plane = sym (p ∙ (λ j. stored (is j) plane (rebuilt-by (is j)))) i })
+        ∙ (λ i. record { answer = Ok tt; end = sym q i; plane = sym (p ∙ (λ j. stored (is j) plane (rebuilt-by (is j)))) i })
 
 -- ---- restart and resume
 
@@ -128,12 +130,12 @@ module _ (e : End) (plane : List ℕ) where
   unfolding restarted
   restart-refused r q = ap (restarted e plane) q
 
-  pub restart-taken : (plane′ : List ℕ) → restart-refusal e plane ≡ None → plane′ ≡ blank (length plane)
-      → restart-call e plane ≡ record { answer = Ok (restart-heading (e .count)); end = end-of (e .size) (e .count + 1); plane = plane′ }
+  pub restart-taken : (h : Heading) (end : End) (plane′ : List ℕ) → restart-refusal e plane ≡ None → h ≡ restart-heading (e .count) → end ≡ end-of (e .size) (e .count + 1) → plane′ ≡ blank (length plane)
+      → restart-call e plane ≡ record { answer = Ok h; end = end; plane = plane′ }
   unfolding restarted
-  restart-taken plane′ q p =
-      ap (restarted e plane) q
-      ∙ (λ i. record { answer = Ok (restart-heading (e .count)); end = end-of (e .size) (e .count + 1); plane = sym (p ∙ ap blank (restart-length e plane q)) i })
+  restart-taken h end plane′ none n q p =
+      ap (restarted e plane) none
+      ∙ (λ i. record { answer = Ok (sym n i); end = sym q i; plane = sym (p ∙ ap blank (restart-length e plane none)) i })
 
   pub resume-refused : (h : Heading) (r : Refusal) → resume-refusal e plane h ≡ Some r → resume-call e plane h ≡ record { answer = Err r; end = e; plane = plane }
   unfolding resumed

@@ -1,5 +1,5 @@
 -- The first rule that fits, and what is known where none does.
-use mathlib.Core.Path.{_≡_, refl, sym, _∙_}
+use mathlib.Core.Path.{_≡_, refl, sym, ap, _∙_}
 use mathlib.Core.List.{List, [], _∷_}
 use mathlib.Core.Bool.{Bool, true, false, cond, not, _&&_, _||_}
 use mathlib.Core.Logic.{_⊎_, ⊎-elim}
@@ -20,7 +20,7 @@ use Rattle.ends.specs.declared.prediction.Mode.the-variants.{Colocated, Vertic
 use Rattle.ends.specs.declared.refusal.Refusal.{Refusal}
 use Rattle.ends.specs.Planes.{bytes}
 use Rattle.ends.specs.Tiles.{mode-of}
-use Rattle.ends.specs.Refusals.{Rules, first-of, bad-plane, bad-place, no-border, tile-rules, code-rules, follow-rules, restart-rules, resume-rules, open-rules, code-refusal, follow-refusal, restart-refusal, resume-refusal, open-refusal}
+use Rattle.ends.specs.Refusals.{Rules, first-of, spent, bad-plane, bad-place, no-border, tile-rules, code-rules, follow-rules, restart-rules, resume-rules, open-rules, code-refusal, follow-refusal, restart-refusal, resume-refusal, open-refusal}
 use Rattle.ends.specs.Calls.{task-of}
 use Rattle.ends.specs.Inner.{Lies, Bordered, Ready}
 
@@ -126,8 +126,8 @@ module _ (m : Meaning) (facts : Facts m) (e : End) (plane : List ℕ) (c : Codin
   pub code-ready : Ready (task-of (e .size) (m .edge) c) (length plane)
   code-ready = ready (e .size) m facts (length plane) c _ (code-clear .0) (code-clear .1 .1)
 
-  pub code-unspent : e .count ≡ 4294967295 → ⊥
-  code-unspent = eqb-false (e .count) 4294967295 (code-clear .1 .0)
+  pub code-unspent : spent (e .count) ≡ false
+  code-unspent = code-clear .1 .0
 
   pub code-lengths : (length source ≡ area m) × (length room ≡ area m)
   code-lengths = let both = or-parts _ _ (code-clear .1 .1 .1 .1 .1 .0) in (same-from _ _ (both .0), same-from _ _ (both .1))
@@ -139,18 +139,21 @@ module _ (m : Meaning) (facts : Facts m) (e : End) (plane : List ℕ) (h : Headi
   pub follow-ready : Ready (task-of (e .size) (m .edge) (h .coding)) (length plane)
   follow-ready = ready (e .size) m facts (length plane) (h .coding) _ (follow-clear .0) (follow-clear .1 .1 .1 .1 .1)
 
-  pub follow-unspent : e .count ≡ 4294967295 → ⊥
-  follow-unspent is =
-      let a = eqb-false (h .number) 4294967295 (follow-clear .1 .0) in
-      let b = ltb-false (h .number) (e .count) (follow-clear .1 .1 .1 .0) in
-      let d = ltb-false (e .count) (h .number) (follow-clear .1 .1 .1 .1 .0) in
-      a (omega arith)
+  pub follow-unspent : spent (e .count) ≡ false
+  follow-unspent =
+      let late = ltb-false (h .number) (e .count) (follow-clear .1 .1 .1 .0) in
+      let early = ltb-false (e .count) (h .number) (follow-clear .1 .1 .1 .1 .0) in
+      let is : h .number ≡ e .count = omega arith in
+      ap spent (sym is) ∙ follow-clear .1 .0
 
   pub follow-length : length levels ≡ area m
   follow-length = same-from _ _ (follow-clear .1 .1 .1 .1 .1 .1 .1 .1 .0)
 
 pub open-length : (s : Size) (plane : List ℕ) → open-refusal s plane ≡ None → length plane ≡ bytes s
 open-length s plane none = same-from _ _ (none-clear (open-rules s plane) none .1 .0)
+
+pub restart-unspent : (e : End) (plane : List ℕ) → restart-refusal e plane ≡ None → spent (e .count) ≡ false
+restart-unspent e plane none = none-clear (restart-rules e plane) none .1 .0
 
 pub restart-length : (e : End) (plane : List ℕ) → restart-refusal e plane ≡ None → length plane ≡ bytes (e .size)
 restart-length e plane none = same-from _ _ (none-clear (restart-rules e plane) none .0)

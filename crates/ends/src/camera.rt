@@ -57,10 +57,8 @@ impl Camera {
         let Ok(()) = coder::code_tile(kind, plane, task, source, levels) else {
             return Err(Refusal::Width);
         };
-        let number = self.end.count;
-        self.end.count = number + 1;
         Ok(Heading {
-            number,
+            number: self.end.count_on(),
             tag: kind.tag(),
             coding,
         })
@@ -74,17 +72,6 @@ impl Camera {
             return Err(refusal);
         }
         plane::clear(plane);
-        let number = self.end.count;
-        self.end.count = number + 1;
-        Ok(Heading {
-            number,
-            tag: 0,
-            coding: Coding {
-                x: 0,
-                y: 0,
-                qp: 0,
-                mode: 0,
-            },
-        })
+        Ok(Heading::restart(self.end.count_on()))
     }
 }

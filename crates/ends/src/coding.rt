@@ -1,4 +1,6 @@
 // How a tile is coded, and the heading that a unit carries over the radio.
+ghost use mathlib.Core.Path.{_≡_};
+ghost use Rattle.ends.specs.Calls.{restart-heading as restartHeading};
 
 // The place of the tile's top left sample, its QP and its mode, as yet unchecked.
 #[derive(Clone, Copy)]
@@ -16,4 +18,21 @@ pub struct Heading {
     pub number: u32,
     pub tag: u8,
     pub coding: Coding,
+}
+
+impl Heading {
+    pub fn restart(number: u32) -> Heading
+        ensures { λ r. ⌜ r ≡ restartHeading number ⌝ }
+    {
+        Heading {
+            number,
+            tag: 0,
+            coding: Coding {
+                x: 0,
+                y: 0,
+                qp: 0,
+                mode: 0,
+            },
+        }
+    }
 }

@@ -1,6 +1,9 @@
 // What both ends hold: the size of their plane, and their count.
 ghost use mathlib.Core.Path.{_≡_};
-ghost use Rattle.ends.specs.Calls.{open-call as openCall};
+ghost use mathlib.Core.Bool.{false};
+ghost use Prim.Native.Nat.{_+_};
+ghost use Rattle.ends.specs.Calls.{open-call as openCall, end-of as endOf};
+ghost use Rattle.ends.specs.Refusals.{spent};
 use crate::plane;
 use crate::plane::Size;
 use crate::refusal::Refusal;
@@ -11,6 +14,19 @@ use crate::rules;
 pub struct End {
     pub size: Size,
     pub count: u32,
+}
+
+impl End {
+    // Counts on by one, and gives the number that the count was.
+    pub fn count_on(&mut self) -> u32
+        requires { ⌜ spent (now self .count) ≡ false ⌝ }
+        ensures number { λ r. ⌜ r ≡ now (self .entry) .count ⌝ }
+        ensures end { λ _. ⌜ now (self .exit) ≡ endOf (now (self .entry) .size) (now (self .entry) .count + 1) ⌝ }
+    {
+        let number = self.count;
+        self.count = number + 1;
+        number
+    }
 }
 
 // An end of the given size and first count, its plane made blank.

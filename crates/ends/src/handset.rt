@@ -55,7 +55,7 @@ impl Handset {
         let Ok(()) = coder::follow_tile(kind, plane, task, levels) else {
             return Err(Refusal::Width);
         };
-        self.end.count += 1;
+        self.end.count_on();
         Ok(())
     }
 

@@ -1,10 +1,6 @@
-use borrow.Author.Needs.{needs}
 use mathlib.Core.Path.{_≡_, sym, ap, subst, _∙_}
 use Prim.Native.Nat.{ℕ}
-use native.Mathlib.Omega.{arith}
 use lib.ListN.{length}
-use mir.Val.{Fits}
-use mir.Syntax.{w32}
 use Rattle.ends.specs.declared.coder.Task.{Task}
 use Rattle.ends.specs.Calls.{task-of}
 use Rattle.ends.specs.Inner.{Ready}
@@ -43,12 +39,10 @@ returns-in-rest-code-tile g c =
     (c .task-of-task .result) (c .task-of-task .ensures ∙ ap (λ (n : ℕ). task-of (e .size) n (c .args .coding)) (c .edge .ensures))
     _ _ (h .answer) (h .plane) (h .levels)
 
-pub add-self : need.add-self
-add-self g c =
+pub count-on-requires : need.count-on-requires
+count-on-requires g c κs =
     let kind = c .args .kind .now in
-    let unspent = code-unspent (g .K·Kind .meaning kind) (g .K·Kind·met .facts kind) (c .args .self .now .end) (c .args .plane .now) (c .args .coding) (c .args .source .now) (c .args .levels .now) (sym (c .in-rest .ensures tt)) in
-    let fits : Fits w32 (c .args .self .now .end .count) = search needs in
-    record { fits = omega arith }
+    code-unspent (g .K·Kind .meaning kind) (g .K·Kind·met .facts kind) (c .args .self .now .end) (c .args .plane .now) (c .args .coding) (c .args .source .now) (c .args .levels .now) (sym (c .in-rest .ensures tt))
 
 pub returns : need.returns
 returns g c =
@@ -57,4 +51,4 @@ returns g c =
     let h = c .in-Ok .ensures tt in
     code-taken m e (c .args .plane .now) (c .args .coding) (c .args .source .now) (c .args .levels .now) (sym (c .in-rest .ensures tt))
     (c .task-of-task .result) (c .task-of-task .ensures ∙ ap (λ (n : ℕ). task-of (e .size) n (c .args .coding)) (c .edge .ensures))
-    _ _ _ (h .answer) (h .plane) (h .levels) (c .tag .ensures)
+    _ _ _ _ _ (h .answer) (c .count-on .ensures .number) (c .tag .ensures) (c .count-on .ensures .end) (h .plane) (h .levels)
