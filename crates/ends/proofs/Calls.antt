@@ -141,9 +141,9 @@ module _ (e : End) (plane : List ℕ) where
   unfolding resumed
   resume-refused h r q = ap (resumed e plane h) q
 
-  pub resume-taken : (h : Heading) (plane′ : List ℕ) → resume-refusal e plane h ≡ None → plane′ ≡ blank (length plane)
-      → resume-call e plane h ≡ record { answer = Ok tt; end = end-of (e .size) (h .number + 1); plane = plane′ }
+  pub resume-taken : (h : Heading) (end : End) (plane′ : List ℕ) → resume-refusal e plane h ≡ None → end ≡ end-of (e .size) (h .number + 1) → plane′ ≡ blank (length plane)
+      → resume-call e plane h ≡ record { answer = Ok tt; end = end; plane = plane′ }
   unfolding resumed
-  resume-taken h plane′ q p =
-      ap (resumed e plane h) q
-      ∙ (λ i. record { answer = Ok tt; end = end-of (e .size) (h .number + 1); plane = sym (p ∙ ap blank (resume-length e plane h q)) i })
+  resume-taken h end plane′ none q p =
+      ap (resumed e plane h) none
+      ∙ (λ i. record { answer = Ok tt; end = sym q i; plane = sym (p ∙ ap blank (resume-length e plane h none)) i })

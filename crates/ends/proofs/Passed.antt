@@ -158,5 +158,8 @@ restart-unspent e plane none = none-clear (restart-rules e plane) none .1 .0
 pub restart-length : (e : End) (plane : List ℕ) → restart-refusal e plane ≡ None → length plane ≡ bytes (e .size)
 restart-length e plane none = same-from _ _ (none-clear (restart-rules e plane) none .0)
 
+pub resume-unspent : (e : End) (plane : List ℕ) (h : Heading) → resume-refusal e plane h ≡ None → spent (h .number) ≡ false
+resume-unspent e plane h none = none-clear (resume-rules e plane h) none .1 .0
+
 pub resume-length : (e : End) (plane : List ℕ) (h : Heading) → resume-refusal e plane h ≡ None → length plane ≡ bytes (e .size)
 resume-length e plane h none = same-from _ _ (none-clear (resume-rules e plane h) none .0)

@@ -16,7 +16,8 @@ use Rattle.std.proofs.shelf.Tests.{cases-eq, cases-lt, cases-order, and-from, a
 use Rattle.ends.specs.declared.plane.Size.{Size}
 use Rattle.ends.specs.declared.tile.Tile.{Tile}
 use Rattle.ends.specs.Planes.{sample}
-use Rattle.ends.specs.Tiles.{covers, offset, with-tile}
+use Rattle.ends.specs.declared.prediction.Mode.{Mode}
+use Rattle.ends.specs.Tiles.{predicted, prediction, covers, offset, with-tile}
 use Rattle.ends.specs.Inner.{Within, on-row}
 
 -- ---- parts of a list
@@ -61,9 +62,15 @@ module _ (f : ℕ → ℕ → ℕ) (n : ℕ) where
       (λ (l : i ≤ r). subst (λ (q : ℕ). getD new (q * n + j) 0 ≡ f j q) (let e : i ≡ r = omega arith in e) (here j hj))
       (cases-lt r i)
 
-  pub rows-all : (tile : List ℕ) → 0 < n → length tile ≡ n * n → Rows f n tile n → tile ≡ map (λ k. f (k % n) (k / n)) (counting 0 (n * n))
+  rows-all : (tile : List ℕ) → 0 < n → length tile ≡ n * n → Rows f n tile n → tile ≡ map (λ k. f (k % n) (k / n)) (counting 0 (n * n))
   rows-all tile some long rows = fill-by-all _ tile (n * n) 0 long (λ k h.
       ap (λ (q : ℕ). getD tile q 0) (sym (div-add-mod' k n)) ∙ rows (k / n) (k % n) (div-below k n n some h) (mod-below k n some))
+
+-- samples whose rows are all predicted are the prediction
+pub all-predicted : (mode : Mode) (t : Tile) (plane samples : List ℕ) (i : ℕ) → 0 < t .edge → length samples ≡ t .edge * t .edge → i ≡ t .edge
+    → Rows (predicted mode t plane) (t .edge) samples i → samples ≡ prediction mode t plane
+unfolding prediction
+all-predicted mode t plane samples i some long all rows = rows-all (predicted mode t plane) (t .edge) samples some long (subst (Rows (predicted mode t plane) (t .edge) samples) all rows)
 
 -- ---- a plane, written row by row
 

@@ -53,12 +53,12 @@ impl Camera {
         if let Some(refusal) = rules::refuse_code(kind, &self.end, plane, coding, source, levels) {
             return Err(refusal);
         }
-        let task = coder::task_of(&self.end, kind.edge(), coding);
+        let task = coder::task_of(kind, &self.end, coding);
         let Ok(()) = coder::code_tile(kind, plane, task, source, levels) else {
             return Err(Refusal::Width);
         };
         Ok(Heading {
-            number: self.end.count_on(),
+            number: self.end.advance(),
             tag: kind.tag(),
             coding,
         })
@@ -72,6 +72,6 @@ impl Camera {
             return Err(refusal);
         }
         plane::clear(plane);
-        Ok(Heading::restart(self.end.count_on()))
+        Ok(Heading::restart(self.end.advance()))
     }
 }

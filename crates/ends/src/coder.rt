@@ -26,15 +26,15 @@ pub struct Task {
     pub qp: u8,
 }
 
-pub fn task_of(end: &End, edge: usize, coding: Coding) -> Task
-    ensures { λ r. ⌜ r ≡ taskOf (now (end .entry) .size) edge coding ⌝ }
+pub fn task_of<K: Kind>(kind: &K, end: &End, coding: Coding) -> Task
+    ensures { λ r. ⌜ r ≡ taskOf (now (end .entry) .size) (meaning (now (kind .entry)) .edge) coding ⌝ }
 {
     Task {
         tile: Tile {
             size: end.size,
             x: coding.x as usize,
             y: coding.y as usize,
-            edge,
+            edge: kind.edge(),
         },
         mode: prediction::mode_of(coding.mode),
         qp: coding.qp,

@@ -17,15 +17,23 @@ pub struct End {
 }
 
 impl End {
-    // Counts on by one, and gives the number that the count was.
-    pub fn count_on(&mut self) -> u32
+    // Raises the count by one, and gives the number that it was.
+    pub fn advance(&mut self) -> u32
         requires { ⌜ spent (now self .count) ≡ false ⌝ }
         ensures number { λ r. ⌜ r ≡ now (self .entry) .count ⌝ }
         ensures end { λ _. ⌜ now (self .exit) ≡ endOf (now (self .entry) .size) (now (self .entry) .count + 1) ⌝ }
     {
         let number = self.count;
-        self.count = number + 1;
+        self.advance_past(number);
         number
+    }
+
+    // Makes the count the number after the given one.
+    pub fn advance_past(&mut self, number: u32)
+        requires { ⌜ spent number ≡ false ⌝ }
+        ensures { λ _. ⌜ now (self .exit) ≡ endOf (now (self .entry) .size) (number + 1) ⌝ }
+    {
+        self.count = number + 1;
     }
 }
 

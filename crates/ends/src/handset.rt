@@ -51,11 +51,11 @@ impl Handset {
         if let Some(refusal) = rules::refuse_follow(kind, &self.end, plane, heading, levels) {
             return Err(refusal);
         }
-        let task = coder::task_of(&self.end, kind.edge(), heading.coding);
+        let task = coder::task_of(kind, &self.end, heading.coding);
         let Ok(()) = coder::follow_tile(kind, plane, task, levels) else {
             return Err(Refusal::Width);
         };
-        self.end.count_on();
+        self.end.advance();
         Ok(())
     }
 
@@ -67,7 +67,7 @@ impl Handset {
             return Err(refusal);
         }
         plane::clear(plane);
-        self.end.count = heading.number + 1;
+        self.end.advance_past(heading.number);
         Ok(())
     }
 }

@@ -54,8 +54,8 @@ pub fn subtract(source: &[u8], prediction: &[u8], residual: &mut [i16])
     requires room { ⌜ length (now residual) ≡ length (now prediction) ⌝ }
     ensures { λ _. ⌜ now (residual .exit) ≡ residualOf (now (source .entry)) (now (prediction .entry)) ⌝ }
 {
-    for t in 0..prediction.len() {
-        residual[t] = source[t] as i16 - prediction[t] as i16;
+    for k in 0..prediction.len() {
+        residual[k] = source[k] as i16 - prediction[k] as i16;
     }
 }
 
@@ -71,8 +71,8 @@ pub fn add(samples: &mut [u8], residual: &[i16])
     requires { ⌜ length (now residual) ≡ length (now samples) ⌝ }
     ensures { λ _. ⌜ now (samples .exit) ≡ reconstructed (now (samples .entry)) (now (residual .entry)) ⌝ }
 {
-    for t in 0..samples.len() {
-        samples[t] = clip(samples[t], residual[t]);
+    for k in 0..samples.len() {
+        samples[k] = clip(samples[k], residual[k]);
     }
 }
 

@@ -1,8 +1,7 @@
 use borrow.Author.Needs.{needs}
-use mathlib.Core.Path.{_≡_, sym, ap, ap₂, subst, _∙_}
+use mathlib.Core.Path.{_≡_, sym, ap, subst, _∙_}
 use mathlib.Core.List.{List}
-use mathlib.Core.Logic.{⊎-elim}
-use Prim.Native.Nat.{ℕ, _+_, _≤_, _<_}
+use Prim.Native.Nat.{ℕ, _+_, _<_}
 use native.Mathlib.Omega.{arith}
 use lib.IntN.{ℤ, pos, _+ℤ_}
 use lib.ListN.{length, getD, set}
@@ -16,22 +15,22 @@ use Rattle.ends.specs.Tiles.{clip, reconstructed}
 use Rattle.ends.proofs.tile.add.Needs as need
 
 abbrev f : List ℕ → List ℤ → ℕ → ℕ
-f samples residual k = clip (pos (getD samples k 0) +ℤ getD residual k (pos 0))
+f samples residual i = clip (pos (getD samples i 0) +ℤ getD residual i (pos 0))
 
-pub loop-t-again : need.loop-t-again
-loop-t-again c =
+pub loop-k-again : need.loop-k-again
+loop-k-again c =
     let old = c .args .samples .now in
-    let now = c .loop-t .samples in
+    let now = c .loop-k .samples in
     let r = c .args .residual .now in
-    let t = c .loop-t .t in
-    let same : getD now t 0 ≡ getD old t 0 = c .loop-t .inv .1 t (omega arith) in
-    let fs : Fits w8 (getD now t 0) = search needs in
-    let fr : SFits w16 (getD r t (pos 0)) = search needs in
-    let v : c .clip .result ≡ f old r t = c .clip .ensures ∙ ap clip (omega (arith, ints)) in (
-      subst (λ (z : ℕ). (k : ℕ) → k < t + 1 → getD (set now t z) k 0 ≡ f old r k) (sym v) (fill-by-more (f old r) now t 0 (omega arith) (c .loop-t .inv .0)),
-      λ k h. getD-set-other now t k (c .clip .result) 0 (λ e. omega arith) ∙ c .loop-t .inv .1 k (omega arith),
+    let k = c .loop-k .k in
+    let same : getD now k 0 ≡ getD old k 0 = c .loop-k .inv .1 k (omega arith) in
+    let fits : Fits w8 (getD now k 0) = search needs in
+    let fits-r : SFits w16 (getD r k (pos 0)) = search needs in
+    let is : c .clip .result ≡ f old r k = c .clip .ensures ∙ ap clip (omega (arith, ints)) in (
+      subst (λ (z : ℕ). (i : ℕ) → i < k + 1 → getD (set now k z) i 0 ≡ f old r i) (sym is) (fill-by-more (f old r) now k 0 (omega arith) (c .loop-k .inv .0)),
+      λ i h. getD-set-other now k i (c .clip .result) 0 (λ e. omega arith) ∙ c .loop-k .inv .1 i (omega arith),
     )
 
 pub returns : need.returns
 unfolding reconstructed
-returns c = fill-by-all _ (c .loop-t .samples) (length (c .args .samples .now)) 0 (c .loop-t .kept .samples) (λ k l. c .loop-t .inv .0 k (omega arith))
+returns c = fill-by-all _ (c .loop-k .samples) (length (c .args .samples .now)) 0 (c .loop-k .kept .samples) (λ i l. c .loop-k .inv .0 i (omega arith))

@@ -5,7 +5,7 @@ use lib.ListN.{getD}
 use Rattle.ends.specs.Tiles.{clip}
 use Rattle.ends.proofs.tile.add.Given as given
 
-abbrev pub Inv-loop-t : given.InvT-loop-t
-Inv-loop-t l =
-    ((k : ℕ) → k < l .t → getD (l .samples) k 0 ≡ clip (pos (getD (l .entry .samples) k 0) +ℤ getD (l .residual) k (pos 0)))
-    × ((k : ℕ) → l .t ≤ k → getD (l .samples) k 0 ≡ getD (l .entry .samples) k 0)
+abbrev pub Inv-loop-k : given.InvT-loop-k
+Inv-loop-k l =
+    ((i : ℕ) → i < l .k → getD (l .samples) i 0 ≡ clip (pos (getD (l .entry .samples) i 0) +ℤ getD (l .residual) i (pos 0)))
+    × ((i : ℕ) → l .k ≤ i → getD (l .samples) i 0 ≡ getD (l .entry .samples) i 0)

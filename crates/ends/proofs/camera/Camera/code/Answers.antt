@@ -1,8 +1,6 @@
-use mathlib.Core.Path.{_≡_, sym, ap, subst, _∙_}
-use Prim.Native.Nat.{ℕ}
+use mathlib.Core.Path.{sym, ap, subst}
 use lib.ListN.{length}
 use Rattle.ends.specs.declared.coder.Task.{Task}
-use Rattle.ends.specs.Calls.{task-of}
 use Rattle.ends.specs.Inner.{Ready}
 use Rattle.ends.proofs.Calls.{code-refused, code-width, code-taken}
 use Rattle.ends.proofs.Passed.{code-ready, code-lengths, code-unspent}
@@ -21,7 +19,7 @@ code-tile-requires g c κs =
     let e = c .args .self .now .end in
     let plane = c .args .plane .now in
     let none = sym (c .in-rest .ensures tt) in
-    let is : c .task-of-task .result ≡ task-of (e .size) (m .edge) (c .args .coding) = c .task-of-task .ensures ∙ ap (λ (n : ℕ). task-of (e .size) n (c .args .coding)) (c .edge .ensures) in
+    let is = c .task-of-task .ensures in
     let lengths = code-lengths m facts e plane (c .args .coding) (c .args .source .now) (c .args .levels .now) none in
     record {
       ready = subst (λ (t : Task). Ready t (length plane)) (sym is) (code-ready m facts e plane (c .args .coding) (c .args .source .now) (c .args .levels .now) none);
@@ -33,22 +31,20 @@ code-tile-requires g c κs =
 pub returns-in-rest-code-tile : need.returns-in-rest-code-tile
 returns-in-rest-code-tile g c =
     let m = g .K·Kind .meaning (c .args .kind .now) in
-    let e = c .args .self .now .end in
     let h = c .in-rest-code-tile .ensures tt in
-    code-width m e (c .args .plane .now) (c .args .coding) (c .args .source .now) (c .args .levels .now) (sym (c .in-rest .ensures tt))
-    (c .task-of-task .result) (c .task-of-task .ensures ∙ ap (λ (n : ℕ). task-of (e .size) n (c .args .coding)) (c .edge .ensures))
+    code-width m (c .args .self .now .end) (c .args .plane .now) (c .args .coding) (c .args .source .now) (c .args .levels .now) (sym (c .in-rest .ensures tt))
+    (c .task-of-task .result) (c .task-of-task .ensures)
     _ _ (h .answer) (h .plane) (h .levels)
 
-pub count-on-requires : need.count-on-requires
-count-on-requires g c κs =
+pub advance-requires : need.advance-requires
+advance-requires g c κs =
     let kind = c .args .kind .now in
     code-unspent (g .K·Kind .meaning kind) (g .K·Kind·met .facts kind) (c .args .self .now .end) (c .args .plane .now) (c .args .coding) (c .args .source .now) (c .args .levels .now) (sym (c .in-rest .ensures tt))
 
 pub returns : need.returns
 returns g c =
     let m = g .K·Kind .meaning (c .args .kind .now) in
-    let e = c .args .self .now .end in
     let h = c .in-Ok .ensures tt in
-    code-taken m e (c .args .plane .now) (c .args .coding) (c .args .source .now) (c .args .levels .now) (sym (c .in-rest .ensures tt))
-    (c .task-of-task .result) (c .task-of-task .ensures ∙ ap (λ (n : ℕ). task-of (e .size) n (c .args .coding)) (c .edge .ensures))
-    _ _ _ _ _ (h .answer) (c .count-on .ensures .number) (c .tag .ensures) (c .count-on .ensures .end) (h .plane) (h .levels)
+    code-taken m (c .args .self .now .end) (c .args .plane .now) (c .args .coding) (c .args .source .now) (c .args .levels .now) (sym (c .in-rest .ensures tt))
+    (c .task-of-task .result) (c .task-of-task .ensures)
+    _ _ _ _ _ (h .answer) (c .advance .ensures .number) (c .tag .ensures) (c .advance .ensures .end) (h .plane) (h .levels)

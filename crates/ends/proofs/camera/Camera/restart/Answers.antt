@@ -7,11 +7,11 @@ use Rattle.ends.proofs.camera.Camera.restart.Needs as need
 pub returns-in-Some : need.returns-in-Some
 returns-in-Some c = restart-refused (c .args .self .now .end) (c .args .plane .now) (c .in-Some .refusal) (sym (c .in-Some .ensures tt))
 
-pub count-on-requires : need.count-on-requires
-count-on-requires c κs =
+pub advance-requires : need.advance-requires
+advance-requires c κs =
     restart-unspent (c .args .self .now .end) (c .args .plane .now) (sym (c .in-rest .ensures tt))
 
 pub returns : need.returns
 returns c =
     restart-taken (c .args .self .now .end) (c .args .plane .now) _ _ _ (sym (c .in-rest .ensures tt))
-    (c .restart .ensures ∙ ap restart-heading (c .count-on .ensures .number)) (c .count-on .ensures .end) (c .clear .ensures)
+    (c .restart .ensures ∙ ap restart-heading (c .advance .ensures .number)) (c .advance .ensures .end) (c .clear .ensures)

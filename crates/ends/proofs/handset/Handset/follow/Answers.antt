@@ -1,8 +1,6 @@
-use mathlib.Core.Path.{_≡_, sym, ap, subst, _∙_}
-use Prim.Native.Nat.{ℕ}
+use mathlib.Core.Path.{sym, ap, subst}
 use lib.ListN.{length}
 use Rattle.ends.specs.declared.coder.Task.{Task}
-use Rattle.ends.specs.Calls.{task-of}
 use Rattle.ends.specs.Inner.{Ready}
 use Rattle.ends.proofs.Calls.{follow-refused, follow-width, follow-taken}
 use Rattle.ends.proofs.Passed.{follow-ready, follow-length, follow-unspent}
@@ -21,7 +19,7 @@ follow-tile-requires g c κs =
     let e = c .args .self .now .end in
     let plane = c .args .plane .now in
     let none = sym (c .in-rest .ensures tt) in
-    let is : c .task-of-task .result ≡ task-of (e .size) (m .edge) (c .args .heading .coding) = c .task-of-task .ensures ∙ ap (λ (n : ℕ). task-of (e .size) n (c .args .heading .coding)) (c .edge .ensures) in
+    let is = c .task-of-task .ensures in
     record {
       ready = subst (λ (t : Task). Ready t (length plane)) (sym is) (follow-ready m facts e plane (c .args .heading) (c .args .levels .now) none);
       edge = ap (λ (t : Task). t .tile .edge) is;
@@ -31,22 +29,20 @@ follow-tile-requires g c κs =
 pub returns-in-rest-follow-tile : need.returns-in-rest-follow-tile
 returns-in-rest-follow-tile g c =
     let m = g .K·Kind .meaning (c .args .kind .now) in
-    let e = c .args .self .now .end in
     let h = c .in-rest-follow-tile .ensures tt in
-    follow-width m e (c .args .plane .now) (c .args .heading) (c .args .levels .now) (sym (c .in-rest .ensures tt))
-    (c .task-of-task .result) (c .task-of-task .ensures ∙ ap (λ (n : ℕ). task-of (e .size) n (c .args .heading .coding)) (c .edge .ensures))
+    follow-width m (c .args .self .now .end) (c .args .plane .now) (c .args .heading) (c .args .levels .now) (sym (c .in-rest .ensures tt))
+    (c .task-of-task .result) (c .task-of-task .ensures)
     _ (h .answer) (h .plane)
 
-pub count-on-requires : need.count-on-requires
-count-on-requires g c κs =
+pub advance-requires : need.advance-requires
+advance-requires g c κs =
     let kind = c .args .kind .now in
     follow-unspent (g .K·Kind .meaning kind) (g .K·Kind·met .facts kind) (c .args .self .now .end) (c .args .plane .now) (c .args .heading) (c .args .levels .now) (sym (c .in-rest .ensures tt))
 
 pub returns : need.returns
 returns g c =
     let m = g .K·Kind .meaning (c .args .kind .now) in
-    let e = c .args .self .now .end in
     let h = c .in-Ok .ensures tt in
-    follow-taken m e (c .args .plane .now) (c .args .heading) (c .args .levels .now) (sym (c .in-rest .ensures tt))
-    (c .task-of-task .result) (c .task-of-task .ensures ∙ ap (λ (n : ℕ). task-of (e .size) n (c .args .heading .coding)) (c .edge .ensures))
-    _ _ (h .answer) (c .count-on .ensures .end) (h .plane)
+    follow-taken m (c .args .self .now .end) (c .args .plane .now) (c .args .heading) (c .args .levels .now) (sym (c .in-rest .ensures tt))
+    (c .task-of-task .result) (c .task-of-task .ensures)
+    _ _ (h .answer) (c .advance .ensures .end) (h .plane)
