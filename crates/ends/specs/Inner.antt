@@ -10,9 +10,9 @@ use Rattle.ends.specs.declared.prediction.Mode.the-variants.{Vertical, Horizon
 use Rattle.ends.specs.declared.tile.Tile.{Tile}
 use Rattle.ends.specs.Planes.{bytes}
 
--- count samples from (x, y) on, to the right, lie in a plane of that length
-pub record Within (s : Size) (length x y count : ℕ) : Type 0 where
-  pub size : length ≡ bytes s
+-- count samples from (x, y) on, to the right, lie in a plane that is so long
+pub record Within (s : Size) (long x y count : ℕ) : Type 0 where
+  pub size : long ≡ bytes s
   pub right : x + count ≤ s .width
   pub bottom : y < s .height
 
@@ -20,9 +20,9 @@ pub record Within (s : Size) (length x y count : ℕ) : Type 0 where
 abbrev pub on-row : (x y count : ℕ) → (col row : ℕ) → Bool
 on-row x y count col row = eqb row y && (leb x col && ltb col (x + count))
 
--- a tile of an edge up to 16 lies in its plane of that length
-pub record Lies (t : Tile) (length : ℕ) : Type 0 where
-  pub size : length ≡ bytes (t .size)
+-- a tile of an edge up to 16 lies in its plane, which is so long
+pub record Lies (t : Tile) (long : ℕ) : Type 0 where
+  pub size : long ≡ bytes (t .size)
   pub right : t .x + t .edge ≤ t .size .width
   pub bottom : t .y + t .edge ≤ t .size .height
   pub some : 0 < t .edge
@@ -33,8 +33,8 @@ pub record Bordered (t : Tile) (mode : Mode) : Type 0 where
   pub above : mode ≡ Vertical → 0 < t .y
   pub left : mode ≡ Horizontal → 0 < t .x
 
--- a task has passed its rules, for a plane of that length
-pub record Ready (t : Task) (length : ℕ) : Type 0 where
-  pub lies : Lies (t .tile) length
+-- a task has passed its rules, for a plane that is so long
+pub record Ready (t : Task) (long : ℕ) : Type 0 where
+  pub lies : Lies (t .tile) long
   pub border : Bordered (t .tile) (t .mode)
   pub quantiser : t .qp ≤ 51

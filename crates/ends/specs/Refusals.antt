@@ -44,8 +44,8 @@ first-of (rule ∷ rules) = cond (rule .0) (Some (rule .1)) (first-of rules)
 abbrev pub bad-side : ℕ → Bool
 bad-side side = not (eqb (side % 16) 0) || (ltb side 16 || ltb 1024 side)
 
-abbrev pub bad-plane : Size → (length : ℕ) → Bool
-bad-plane s length = not (eqb length (bytes s))
+abbrev pub bad-plane : Size → (n : ℕ) → Bool
+bad-plane s n = not (eqb n (bytes s))
 
 -- the largest count, which no unit and no restart has
 abbrev pub spent : ℕ → Bool

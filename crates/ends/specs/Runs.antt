@@ -159,27 +159,26 @@ Proper p (c ∷ cs) = Proper p cs × Proper-call c (given p cs)
 -- ---- the law
 
 -- Agreement: the handset holds what the camera held at the handset's count.
-pub record Agreement (s : Size) (first : ℕ) (calls : List Call) : Type 0 where
+pub record Agreement (s : Size) (start : Pair) (calls : List Call) : Type 0 where
   -- the camera has held a plane at each count from the first to its own, and the handset's count is one of these
-  pub counted : first + length (planes (opened-alike s first) calls) ≡ after (opened-alike s first) calls .camera .count + 1
-  pub not-before : first ≤ after (opened-alike s first) calls .handset .count
-  pub not-past : after (opened-alike s first) calls .handset .count ≤ after (opened-alike s first) calls .camera .count
+  pub counted : start .camera .count + length (planes start calls) ≡ after start calls .camera .count + 1
+  pub not-before : start .camera .count ≤ after start calls .handset .count
+  pub not-past : after start calls .handset .count ≤ after start calls .camera .count
   -- each handset sample is the one that the camera held there at the handset's count
   pub same : (col row : ℕ) → col < s .width → row < s .height
-      → sample s (after (opened-alike s first) calls .handset-plane) col row
-      ≡ sample s (held-at (opened-alike s first) calls (after (opened-alike s first) calls .handset .count)) col row
+      → sample s (after start calls .handset-plane) col row ≡ sample s (held-at start calls (after start calls .handset .count)) col row
   -- a unit given out is taken next exactly when its number is the handset's count, a restart exactly when it is that or above
-  pub units : (m : Meaning) (h : Heading) (levels : List ℤ) → Among (unit m h levels) (given (opened-alike s first) calls)
-      → taken (follow m h levels) (after (opened-alike s first) calls) ≡ eqb (h .number) (after (opened-alike s first) calls .handset .count)
-  pub marks : (h : Heading) → Among (mark h) (given (opened-alike s first) calls)
-      → taken (resume h) (after (opened-alike s first) calls) ≡ leb (after (opened-alike s first) calls .handset .count) (h .number)
+  pub units : (m : Meaning) (h : Heading) (levels : List ℤ) → Among (unit m h levels) (given start calls)
+      → taken (follow m h levels) (after start calls) ≡ eqb (h .number) (after start calls .handset .count)
+  pub marks : (h : Heading) → Among (mark h) (given start calls)
+      → taken (resume h) (after start calls) ≡ leb (after start calls .handset .count) (h .number)
 
 -- Error limit: each camera sample is near the source sample last coded there, and 128 where none was.
-abbrev pub Error-limit : Size → (first : ℕ) → List Call → Type 0
-Error-limit s first calls = (col row : ℕ) → col < s .width → row < s .height
-    → let v = sample s (after (opened-alike s first) calls .camera-plane) col row in
-    options.Cases (last-coded (opened-alike s first) calls col row) (v ≡ 128) (λ c. (v ≤ c .0 + c .1) × (c .0 ≤ v + c .1))
+abbrev pub Error-limit : Size → (start : Pair) → List Call → Type 0
+Error-limit s start calls = (col row : ℕ) → col < s .width → row < s .height
+    → let v = sample s (after start calls .camera-plane) col row in
+    options.Cases (last-coded start calls col row) (v ≡ 128) (λ c. (v ≤ c .0 + c .1) × (c .0 ≤ v + c .1))
 
--- after every proper run of a camera and a handset that were opened so
+-- after every proper run of a camera and a handset that were opened alike
 abbrev pub Run-law : Size → (first : ℕ) → Type 0
-Run-law s first = (calls : List Call) → Proper (opened-alike s first) calls → Agreement s first calls × Error-limit s first calls
+Run-law s first = (calls : List Call) → Proper (opened-alike s first) calls → Agreement s (opened-alike s first) calls × Error-limit s (opened-alike s first) calls

@@ -1,6 +1,8 @@
-use mathlib.Core.Path.{sym, ap, subst}
+use mathlib.Core.Path.{_≡_, sym, ap, subst}
 use lib.ListN.{length}
+use Rattle.std.specs.declared.option.Option.the-variants.{None}
 use Rattle.ends.specs.declared.coder.Task.{Task}
+use Rattle.ends.specs.Refusals.{follow-refusal}
 use Rattle.ends.specs.Inner.{Ready}
 use Rattle.ends.proofs.Calls.{follow-refused, follow-width, follow-taken}
 use Rattle.ends.proofs.Passed.{follow-ready, follow-length, follow-unspent}
@@ -13,36 +15,33 @@ returns-in-Some g c =
 
 pub follow-tile-requires : need.follow-tile-requires
 follow-tile-requires g c κs =
-    let kind = c .args .kind .now in
-    let m = g .K·Kind .meaning kind in
-    let facts = g .K·Kind·met .facts kind in
+    let m = g .K·Kind .meaning (c .args .kind .now) in
+    let facts = g .K·Kind·met .facts (c .args .kind .now) in
     let e = c .args .self .now .end in
     let plane = c .args .plane .now in
-    let none = sym (c .in-rest .ensures tt) in
+    let h = c .args .heading in
+    let levels = c .args .levels .now in
+    let none : follow-refusal m e plane h levels ≡ None = sym (c .in-rest .ensures tt) in
     let is = c .task-of-task .ensures in
     record {
-      ready = subst (λ (t : Task). Ready t (length plane)) (sym is) (follow-ready m facts e plane (c .args .heading) (c .args .levels .now) none);
+      ready = subst (λ (t : Task). Ready t (length plane)) (sym is) (follow-ready m facts e plane h levels none);
       edge = ap (λ (t : Task). t .tile .edge) is;
-      levels = follow-length m facts e plane (c .args .heading) (c .args .levels .now) none;
+      levels = follow-length m facts e plane h levels none;
     }
 
 pub returns-in-rest-follow-tile : need.returns-in-rest-follow-tile
 returns-in-rest-follow-tile g c =
-    let m = g .K·Kind .meaning (c .args .kind .now) in
     let h = c .in-rest-follow-tile .ensures tt in
-    follow-width m (c .args .self .now .end) (c .args .plane .now) (c .args .heading) (c .args .levels .now) (sym (c .in-rest .ensures tt))
-    (c .task-of-task .result) (c .task-of-task .ensures)
-    _ (h .answer) (h .plane)
+    follow-width (g .K·Kind .meaning (c .args .kind .now)) (c .args .self .now .end) (c .args .plane .now) (c .args .heading) (c .args .levels .now)
+    (sym (c .in-rest .ensures tt)) (c .task-of-task .result) (c .task-of-task .ensures) _ (h .answer) (h .plane)
 
 pub advance-requires : need.advance-requires
 advance-requires g c κs =
-    let kind = c .args .kind .now in
-    follow-unspent (g .K·Kind .meaning kind) (g .K·Kind·met .facts kind) (c .args .self .now .end) (c .args .plane .now) (c .args .heading) (c .args .levels .now) (sym (c .in-rest .ensures tt))
+    follow-unspent (g .K·Kind .meaning (c .args .kind .now)) (g .K·Kind·met .facts (c .args .kind .now)) (c .args .self .now .end) (c .args .plane .now) (c .args .heading) (c .args .levels .now)
+    (sym (c .in-rest .ensures tt))
 
 pub returns : need.returns
 returns g c =
-    let m = g .K·Kind .meaning (c .args .kind .now) in
     let h = c .in-Ok .ensures tt in
-    follow-taken m (c .args .self .now .end) (c .args .plane .now) (c .args .heading) (c .args .levels .now) (sym (c .in-rest .ensures tt))
-    (c .task-of-task .result) (c .task-of-task .ensures)
-    _ _ (h .answer) (c .advance .ensures .end) (h .plane)
+    follow-taken (g .K·Kind .meaning (c .args .kind .now)) (c .args .self .now .end) (c .args .plane .now) (c .args .heading) (c .args .levels .now)
+    (sym (c .in-rest .ensures tt)) (c .task-of-task .result) (c .task-of-task .ensures) _ _ (h .answer) (c .advance .ensures .end) (h .plane)
