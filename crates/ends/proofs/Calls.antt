@@ -20,7 +20,7 @@ use Rattle.ends.specs.declared.refusal.Refusal.the-variants.{Width}
 use Rattle.ends.specs.Planes.{bytes, blank}
 use Rattle.ends.specs.Tiles.{code-levels, stored}
 use Rattle.ends.specs.Refusals.{code-refusal, restart-refusal, follow-refusal, resume-refusal}
-use Rattle.ends.specs.Calls.{end-of, task-of, restart-heading, Coded, Answered, coded, restarted, followed, resumed, code-back, code-call, restart-call, follow-call, resume-call}
+use Rattle.ends.specs.Calls.{end-of, task-of, restart-heading, Coded, Answered, coded, restarted, followed, resumed, code-rebuilt, code-call, restart-call, follow-call, resume-call}
 use Rattle.ends.proofs.Passed.{restart-length, resume-length}
 
 -- true is not false
@@ -38,47 +38,47 @@ module _ (m : Meaning) (e : End) (plane : List ℕ) (c : Coding) (source : List 
 
   pub code-refused : (r : Refusal) → code-refusal m e plane c source room ≡ Some r → code-call m e plane c source room ≡ record { answer = Err r; end = e; plane = plane; levels = room }
   unfolding coded
-  code-refused r q = ap (λ (o : Option Refusal). code-comes o (code-back m e plane c source)) q
+  code-refused r q = ap (λ (o : Option Refusal). code-comes o (code-rebuilt m e plane c source)) q
 
-  width-refused : (back : Option (List ℤ)) → false ≡ isSome back → code-comes None back ≡ record { answer = Err Width; end = e; plane = stored code-task plane back; levels = room }
+  width-refused : (rebuilt : Option (List ℤ)) → false ≡ isSome rebuilt → code-comes None rebuilt ≡ record { answer = Err Width; end = e; plane = stored code-task plane rebuilt; levels = room }
   unfolding coded
   width-refused None b = refl
-  width-refused (Some back) b = apart (sym b)
+  width-refused (Some rebuilt) b = apart (sym b)
 
-  all-taken : (back : Option (List ℤ)) → true ≡ isSome back
-      → code-comes None back ≡ record {
+  all-taken : (rebuilt : Option (List ℤ)) → true ≡ isSome rebuilt
+      → code-comes None rebuilt ≡ record {
         answer = Ok (record { number = e .count; tag = m .tag; coding = c });
         end = end-of (e .size) (e .count + 1);
-        plane = stored code-task plane back;
+        plane = stored code-task plane rebuilt;
         levels = code-levels m code-task plane source;
       }
   unfolding coded
   all-taken None b = apart b
-  all-taken (Some back) b = refl
+  all-taken (Some rebuilt) b = refl
 
   -- the same, by what the coder promises of the task that it was handed
   module _ (none : code-refusal m e plane c source room ≡ None) (task : Task) (is : task ≡ code-task) where
-    abbrev back-of : Task → Option (List ℤ)
-    back-of t = m .reconstruction (t .qp) (code-levels m t plane source)
+    abbrev rebuilt-of : Task → Option (List ℤ)
+    rebuilt-of t = m .reconstruction (t .qp) (code-levels m t plane source)
 
-    pub code-width : (plane′ : List ℕ) (levels′ : List ℤ) → false ≡ isSome (back-of task) → plane′ ≡ stored task plane (back-of task) → levels′ ≡ room
+    pub code-width : (plane′ : List ℕ) (levels′ : List ℤ) → false ≡ isSome (rebuilt-of task) → plane′ ≡ stored task plane (rebuilt-of task) → levels′ ≡ room
         → code-call m e plane c source room ≡ record { answer = Err Width; end = e; plane = plane′; levels = levels′ }
     code-width plane′ levels′ b p l =
-        (λ i. code-comes (none i) (back-of code-task))
-        ∙ width-refused (back-of code-task) (b ∙ (λ i. isSome (back-of (is i))))
-        ∙ (λ i. record { answer = Err Width; end = e; plane = sym (p ∙ (λ j. stored (is j) plane (back-of (is j)))) i; levels = sym l i })
+        (λ i. code-comes (none i) (rebuilt-of code-task))
+        ∙ width-refused (rebuilt-of code-task) (b ∙ (λ i. isSome (rebuilt-of (is i))))
+        ∙ (λ i. record { answer = Err Width; end = e; plane = sym (p ∙ (λ j. stored (is j) plane (rebuilt-of (is j)))) i; levels = sym l i })
 
     pub code-taken : (number tag : ℕ) (end : End) (plane′ : List ℕ) (levels′ : List ℤ)
-        → true ≡ isSome (back-of task) → number ≡ e .count → tag ≡ m .tag → end ≡ end-of (e .size) (e .count + 1)
-        → plane′ ≡ stored task plane (back-of task) → levels′ ≡ code-levels m task plane source
+        → true ≡ isSome (rebuilt-of task) → number ≡ e .count → tag ≡ m .tag → end ≡ end-of (e .size) (e .count + 1)
+        → plane′ ≡ stored task plane (rebuilt-of task) → levels′ ≡ code-levels m task plane source
         → code-call m e plane c source room ≡ record { answer = Ok (record { number = number; tag = tag; coding = c }); end = end; plane = plane′; levels = levels′ }
     code-taken number tag end plane′ levels′ b n t q p l =
-        (λ i. code-comes (none i) (back-of code-task))
-        ∙ all-taken (back-of code-task) (b ∙ (λ i. isSome (back-of (is i))))
+        (λ i. code-comes (none i) (rebuilt-of code-task))
+        ∙ all-taken (rebuilt-of code-task) (b ∙ (λ i. isSome (rebuilt-of (is i))))
         ∙ (λ i. record {
           answer = Ok (record { number = sym n i; tag = sym t i; coding = c });
           end = sym q i;
-          plane = sym (p ∙ (λ j. stored (is j) plane (back-of (is j)))) i;
+          plane = sym (p ∙ (λ j. stored (is j) plane (rebuilt-of (is j)))) i;
           levels = sym (l ∙ (λ j. code-levels m (is j) plane source)) i;
         })
 
@@ -95,15 +95,15 @@ module _ (m : Meaning) (e : End) (plane : List ℕ) (h : Heading) (levels : List
   unfolding followed
   follow-refused r q = ap (λ (o : Option Refusal). follow-comes o (m .reconstruction (h .coding .qp) levels)) q
 
-  width-refused-here : (back : Option (List ℤ)) → false ≡ isSome back → follow-comes None back ≡ record { answer = Err Width; end = e; plane = stored follow-task plane back }
+  width-refused-here : (rebuilt : Option (List ℤ)) → false ≡ isSome rebuilt → follow-comes None rebuilt ≡ record { answer = Err Width; end = e; plane = stored follow-task plane rebuilt }
   unfolding followed
   width-refused-here None b = refl
-  width-refused-here (Some back) b = apart (sym b)
+  width-refused-here (Some rebuilt) b = apart (sym b)
 
-  all-taken-here : (back : Option (List ℤ)) → true ≡ isSome back → follow-comes None back ≡ record { answer = Ok tt; end = end-of (e .size) (e .count + 1); plane = stored follow-task plane back }
+  all-taken-here : (rebuilt : Option (List ℤ)) → true ≡ isSome rebuilt → follow-comes None rebuilt ≡ record { answer = Ok tt; end = end-of (e .size) (e .count + 1); plane = stored follow-task plane rebuilt }
   unfolding followed
   all-taken-here None b = apart b
-  all-taken-here (Some back) b = refl
+  all-taken-here (Some rebuilt) b = refl
 
   module _ (none : follow-refusal m e plane h levels ≡ None) (task : Task) (is : task ≡ follow-task) where
     abbrev rebuilt-by : Task → Option (List ℤ)

@@ -50,37 +50,37 @@ module _ (s : Size) (m : Meaning) (facts : Facts m) (plane : List ℕ) (long : l
   abbrev task : Task
   task = task-of s (m .edge) c
 
-  abbrev guess : List ℕ
-  guess = prediction (task .mode) (task .tile) plane
+  abbrev pred : List ℕ
+  pred = prediction (task .mode) (task .tile) plane
 
   abbrev far : ℕ
   far = m .distance (c .qp) (sort-of (task .mode))
 
-  pub guess-long : length (residual source guess) ≡ m .edge * m .edge
-  guess-long = length-residual source guess ∙ length-prediction (task .mode) (task .tile) plane
+  pub residual-long : length (residual source pred) ≡ m .edge * m .edge
+  residual-long = length-residual source pred ∙ length-prediction (task .mode) (task .tile) plane
 
-  module _ (back : List ℤ) (is : m .reconstruction (c .qp) (code-levels m task plane source) ≡ Some back) where
+  module _ (rebuilt : List ℤ) (is : m .reconstruction (c .qp) (code-levels m task plane source) ≡ Some rebuilt) where
     near-source : (k : ℕ) → k < m .edge * m .edge
-        → (getD (reconstructed guess back) k 0 ≤ getD source k 0 + far) × (getD source k 0 ≤ getD (reconstructed guess back) k 0 + far)
+        → (getD (reconstructed pred rebuilt) k 0 ≤ getD source k 0 + far) × (getD source k 0 ≤ getD (reconstructed pred rebuilt) k 0 + far)
     near-source k h =
-        let in-guess : k < length guess = let l = length-prediction (task .mode) (task .tile) plane in omega arith in
-        let near = facts .near (c .qp) (sort-of (task .mode)) (residual source guess) back low guess-long
-        (differences-residual source guess sources (bytes-prediction (task .mode) (task .tile) plane (edge-bounds m facts .0) byte)) is k h in
-        let near′ : Near (getD back k (pos 0)) (pos (getD source k 0) -ℤ pos (getD guess k 0)) far =
-        subst (λ (z : ℤ). Near (getD back k (pos 0)) z far) (getD-residual source guess k in-guess) near in
-        subst (λ (v : ℕ). (v ≤ getD source k 0 + far) × (getD source k 0 ≤ v + far)) (sym (getD-reconstructed guess back k in-guess))
-        (clip-near (getD guess k 0) (getD source k 0) far (getD back k (pos 0)) (sources k) near′)
+        let in-pred : k < length pred = let l = length-prediction (task .mode) (task .tile) plane in omega arith in
+        let near = facts .near (c .qp) (sort-of (task .mode)) (residual source pred) rebuilt low residual-long
+        (differences-residual source pred sources (bytes-prediction (task .mode) (task .tile) plane (edge-bounds m facts .0) byte)) is k h in
+        let near′ : Near (getD rebuilt k (pos 0)) (pos (getD source k 0) -ℤ pos (getD pred k 0)) far =
+        subst (λ (z : ℤ). Near (getD rebuilt k (pos 0)) z far) (getD-residual source pred k in-pred) near in
+        subst (λ (v : ℕ). (v ≤ getD source k 0 + far) × (getD source k 0 ≤ v + far)) (sym (getD-reconstructed pred rebuilt k in-pred))
+        (clip-near (getD pred k 0) (getD source k 0) far (getD rebuilt k (pos 0)) (sources k) near′)
 
     pub code-close : (col row : ℕ) → col < s .width → row < s .height → (o : Option (ℕ × ℕ)) → Close s plane col row o
-        → Close s (stored task plane (Some back)) col row (cond (covers (task .tile) col row) (Some (getD source (offset (task .tile) col row) 0, far)) o)
+        → Close s (stored task plane (Some rebuilt)) col row (cond (covers (task .tile) col row) (Some (getD source (offset (task .tile) col row) 0, far)) o)
     code-close col row hc hr o close = go (covers (task .tile) col row) refl
       where
         at : ℕ
         at = offset (task .tile) col row
 
-        is-now : sample s (stored task plane (Some back)) col row ≡ cond (covers (task .tile) col row) (getD (reconstructed guess back) at 0) (sample s plane col row)
-        is-now = sample-with-tile (task .tile) (reconstructed guess back) plane col row long hc hr
+        is-now : sample s (stored task plane (Some rebuilt)) col row ≡ cond (covers (task .tile) col row) (getD (reconstructed pred rebuilt) at 0) (sample s plane col row)
+        is-now = sample-with-tile (task .tile) (reconstructed pred rebuilt) plane col row long hc hr
 
-        go : (b : Bool) → covers (task .tile) col row ≡ b → Close s (stored task plane (Some back)) col row (cond b (Some (getD source at 0, far)) o)
+        go : (b : Bool) → covers (task .tile) col row ≡ b → Close s (stored task plane (Some rebuilt)) col row (cond b (Some (getD source at 0, far)) o)
         go true e = subst (λ (v : ℕ). (v ≤ getD source at 0 + far) × (getD source at 0 ≤ v + far)) (sym (is-now ∙ cond-true _ _ _ e)) (near-source at (in-tile (task .tile) col row e))
-        go false e = unchanged s plane (stored task plane (Some back)) col row o (is-now ∙ cond-false _ _ _ e) close
+        go false e = unchanged s plane (stored task plane (Some rebuilt)) col row o (is-now ∙ cond-false _ _ _ e) close

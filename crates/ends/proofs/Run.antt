@@ -25,9 +25,9 @@ use Rattle.ends.specs.declared.refusal.Refusal.the-variants.{Width}
 use Rattle.ends.specs.Planes.{bytes, sample, blank}
 use Rattle.ends.specs.Tiles.{sort-of, prediction, residual, reconstructed, code-levels, stored}
 use Rattle.ends.specs.Refusals.{spent, code-rules, restart-rules, follow-rules, resume-rules, code-refusal, restart-refusal, follow-refusal, resume-refusal}
-use Rattle.ends.specs.Calls.{end-of, task-of, restart-heading, Coded, Answered, coded, restarted, followed, resumed, code-back, code-call, restart-call, follow-call, resume-call}
+use Rattle.ends.specs.Calls.{end-of, task-of, restart-heading, Coded, Answered, coded, restarted, followed, resumed, code-rebuilt, code-call, restart-call, follow-call, resume-call}
 use Rattle.ends.specs.Runs.{Call, code, restart, follow, resume, Pair, opened-alike, next, taken, by-camera, Given, unit, mark, unit-of, mark-of, gives, after, given, planes, coded-by, last-coded, Among, Proper, Proper-call, Run-law}
-use Rattle.ends.proofs.Limit.{Close, code-close, guess-long}
+use Rattle.ends.proofs.Limit.{Close, code-close, residual-long}
 use Rattle.ends.proofs.Passed.{none-clear, clear-none, hit, edge-bounds}
 use Rattle.ends.proofs.Rows.{length-with-tile}
 use Rattle.ends.proofs.Samples.{Bytes, bytes-blank, bytes-prediction, bytes-reconstructed, bytes-with-tile, differences-residual}
@@ -66,10 +66,10 @@ module _ (s : Size) (first : ℕ) where
   record Unit-sound (k : ℕ) (ps : List (List ℕ)) (m : Meaning) (h : Heading) (levels : List ℤ) : Type 0 where
     since : first ≤ h .number
     below : h .number < k
-    back : List ℤ
-    back-is : m .reconstruction (h .coding .qp) levels ≡ Some back
+    rebuilt : List ℤ
+    rebuilt-is : m .reconstruction (h .coding .qp) levels ≡ Some rebuilt
     passes : (copy : List ℕ) → length copy ≡ bytes s → follow-refusal m (end-of s (h .number)) copy h levels ≡ None
-    stores : held ps (h .number + 1) ≡ stored (task-of s (m .edge) (h .coding)) (held ps (h .number)) (Some back)
+    stores : held ps (h .number + 1) ≡ stored (task-of s (m .edge) (h .coding)) (held ps (h .number)) (Some rebuilt)
 
   record Mark-sound (k : ℕ) (ps : List (List ℕ)) (h : Heading) : Type 0 where
     since : first ≤ h .number
@@ -152,13 +152,13 @@ module _ (s : Size) (first : ℕ) where
     still-sound new (unit m h levels) u = record {
       since = u .since;
       below = let b = u .below in omega arith;
-      back = u .back;
-      back-is = u .back-is;
+      rebuilt = u .rebuilt;
+      rebuilt-is = u .rebuilt-is;
       passes = u .passes;
       stores =
           held-old new (h .number + 1) (let b = u .below in omega arith)
           ∙ u .stores
-          ∙ ap (λ (p : List ℕ). stored (task-of s (m .edge) (h .coding)) p (Some (u .back))) (sym (held-old new (h .number) (let b = u .below in omega arith)));
+          ∙ ap (λ (p : List ℕ). stored (task-of s (m .edge) (h .coding)) p (Some (u .rebuilt))) (sym (held-old new (h .number) (let b = u .below in omega arith)));
     }
     still-sound new (mark h) u = record {
       since = u .since;
@@ -229,50 +229,50 @@ module _ (s : Size) (first : ℕ) where
       abbrev code-next : Coded → Pair
       code-next q = record { camera = q .end; camera-plane = q .plane; handset = end-of s j; handset-plane = r .copy }
 
-      code-is : (o : Option Refusal) (b : Option (List ℤ)) → code-refusal m (end-of s k) (r .plane) c source room ≡ o → code-back m (end-of s k) (r .plane) c source ≡ b
+      code-is : (o : Option Refusal) (b : Option (List ℤ)) → code-refusal m (end-of s k) (r .plane) c source room ≡ o → code-rebuilt m (end-of s k) (r .plane) c source ≡ b
           → code-call m (end-of s k) (r .plane) c source room ≡ coded m (end-of s k) (r .plane) c source room o b
       code-is o b e f = λ i. coded m (end-of s k) (r .plane) c source room (e i) (f i)
 
       code-stays : (x : Refusal) → code-call m (end-of s k) (r .plane) c source room ≡ record { answer = Err x; end = end-of s k; plane = r .plane; levels = room } → Run (the-code ∷ cs)
       code-stays x e = stays cs r the-code (ap code-next e) (ap (λ (q : Coded). unit-of m (q .levels) (q .answer)) e) (ap (λ (q : Coded). isOk (q .answer)) e)
 
-      code-moves : Facts m → Bytes source → (back : List ℤ) → code-refusal m (end-of s k) (r .plane) c source room ≡ None → code-back m (end-of s k) (r .plane) c source ≡ Some back → Run (the-code ∷ cs)
+      code-moves : Facts m → Bytes source → (rebuilt : List ℤ) → code-refusal m (end-of s k) (r .plane) c source room ≡ None → code-rebuilt m (end-of s k) (r .plane) c source ≡ Some rebuilt → Run (the-code ∷ cs)
       unfolding coded
-      code-moves facts sources back none back-is =
-          let q = code-is None (Some back) none back-is in
+      code-moves facts sources rebuilt none rebuilt-is =
+          let q = code-is None (Some rebuilt) none rebuilt-is in
           let h : Heading = record { number = k; tag = m .tag; coding = c } in
           let task : Task = task-of s (m .edge) c in
           let levels : List ℤ = code-levels m task (r .plane) source in
-          let guess : List ℕ = prediction (task .mode) (task .tile) (r .plane) in
-          let new : List ℕ = stored task (r .plane) (Some back) in
+          let pred : List ℕ = prediction (task .mode) (task .tile) (r .plane) in
+          let new : List ℕ = stored task (r .plane) (Some rebuilt) in
           let low-qp : c .qp ≤ 51 = ltb-false 51 (c .qp) (none-clear (code-rules m (end-of s k) (r .plane) c source room) none .1 .1 .0) in
           let good = r .good in
-          let many : length levels ≡ m .edge * m .edge = facts .level-count (c .qp) (sort-of (task .mode)) (residual source guess) low-qp
-          (guess-long s m facts (r .plane) (good .long) (good .byte) c source sources low-qp)
-          (differences-residual source guess sources (bytes-prediction (task .mode) (task .tile) (r .plane) (edge-bounds m facts .0) (good .byte))) in
+          let many : length levels ≡ m .edge * m .edge = facts .level-count (c .qp) (sort-of (task .mode)) (residual source pred) low-qp
+          (residual-long s m facts (r .plane) (good .long) (good .byte) c source sources low-qp)
+          (differences-residual source pred sources (bytes-prediction (task .mode) (task .tile) (r .plane) (edge-bounds m facts .0) (good .byte))) in
           let kept : held (ps ++ new ∷ []) k ≡ r .plane = held-old k (r .plane) j (r .copy) ps out last good new k (omega arith) ∙ good .top in
           let sound : Unit-sound (k + 1) (ps ++ new ∷ []) m h levels = record {
             since = let l = good .low in let u = good .high in omega arith;
             below = omega arith;
-            back = back;
-            back-is = back-is;
+            rebuilt = rebuilt;
+            rebuilt-is = rebuilt-is;
             passes = λ copy long. follow-passes m s k (r .plane) copy c source room levels none long many;
-            stores = held-new k (r .plane) j (r .copy) ps out last good new ∙ ap (λ (p : List ℕ). stored task p (Some back)) (sym kept);
+            stores = held-new k (r .plane) j (r .copy) ps out last good new ∙ ap (λ (p : List ℕ). stored task p (Some rebuilt)) (sym kept);
           } in
           arrive cs r the-code (k + 1) new j (r .copy) (unit m h levels ∷ []) true (ap code-next q) (ap (λ (q : Coded). unit-of m (q .levels) (q .answer)) q) (ap (λ (q : Coded). isOk (q .answer)) q)
           (camera-moves k (r .plane) j (r .copy) ps out last good new (unit m h levels) (last-then the-code true last)
-          (length-with-tile (task .tile) (reconstructed guess back) (r .plane) ∙ good .long)
-          (bytes-with-tile (task .tile) (reconstructed guess back) (r .plane) (bytes-reconstructed guess back) (good .byte)) sound
-          (λ col row hc hr. code-close s m facts (r .plane) (good .long) (good .byte) c source sources low-qp back back-is col row hc hr (last col row) (good .close col row hc hr)))
+          (length-with-tile (task .tile) (reconstructed pred rebuilt) (r .plane) ∙ good .long)
+          (bytes-with-tile (task .tile) (reconstructed pred rebuilt) (r .plane) (bytes-reconstructed pred rebuilt) (good .byte)) sound
+          (λ col row hc hr. code-close s m facts (r .plane) (good .long) (good .byte) c source sources low-qp rebuilt rebuilt-is col row hc hr (last col row) (good .close col row hc hr)))
 
       code-step : Facts m → Bytes source → Run (the-code ∷ cs)
       unfolding coded
       code-step facts sources = go _ _ refl refl
         where
-          go : (o : Option Refusal) (b : Option (List ℤ)) → code-refusal m (end-of s k) (r .plane) c source room ≡ o → code-back m (end-of s k) (r .plane) c source ≡ b → Run (the-code ∷ cs)
+          go : (o : Option Refusal) (b : Option (List ℤ)) → code-refusal m (end-of s k) (r .plane) c source room ≡ o → code-rebuilt m (end-of s k) (r .plane) c source ≡ b → Run (the-code ∷ cs)
           go (Some x) b e f = code-stays x (code-is (Some x) b e f)
           go None None e f = code-stays Width (code-is None None e f)
-          go None (Some back) e f = code-moves facts sources back e f
+          go None (Some rebuilt) e f = code-moves facts sources rebuilt e f
 
     -- restart
 
@@ -317,8 +317,8 @@ module _ (s : Size) (first : ℕ) where
       abbrev the-follow : Option Refusal → Option (List ℤ) → R
       the-follow = followed m (end-of s j) (r .copy) h
 
-      follow-on : h .number ≡ j → follow-call m (end-of s j) (r .copy) h levels ≡ the-follow None (Some (u .back))
-      follow-on e = λ i. the-follow (subst (λ (n : ℕ). follow-refusal m (end-of s n) (r .copy) h levels ≡ None) e (u .passes (r .copy) (r .good .copy-long)) i) (u .back-is i)
+      follow-on : h .number ≡ j → follow-call m (end-of s j) (r .copy) h levels ≡ the-follow None (Some (u .rebuilt))
+      follow-on e = λ i. the-follow (subst (λ (n : ℕ). follow-refusal m (end-of s n) (r .copy) h levels ≡ None) e (u .passes (r .copy) (r .good .copy-long)) i) (u .rebuilt-is i)
 
       follow-off : (h .number ≡ j → ⊥) → (x : Refusal) × (follow-call m (end-of s j) (r .copy) h levels ≡ the-follow (Some x) (m .reconstruction (h .coding .qp) levels))
       follow-off ne =
@@ -343,9 +343,9 @@ module _ (s : Size) (first : ℕ) where
           on e =
               let q = follow-on e in
               let task : Task = task-of s (m .edge) (h .coding) in
-              let new : List ℕ = stored task (r .copy) (Some (u .back)) in
+              let new : List ℕ = stored task (r .copy) (Some (u .rebuilt)) in
               let is : new ≡ held ps (j + 1) =
-              ap (λ (p : List ℕ). stored task p (Some (u .back))) (r .good .same ∙ ap (held ps) (sym e)) ∙ sym (u .stores) ∙ ap (λ (n : ℕ). held ps (n + 1)) e in
+              ap (λ (p : List ℕ). stored task p (Some (u .rebuilt))) (r .good .same ∙ ap (held ps) (sym e)) ∙ sym (u .stores) ∙ ap (λ (n : ℕ). held ps (n + 1)) e in
               arrive cs r (follow m h levels) k (r .plane) (j + 1) new [] true (ap handset-next q) refl (ap (λ (q : R). isOk (q .answer)) q)
               (handset-moves k (r .plane) j (r .copy) ps out last (r .good) (j + 1) new (let l = r .good .low in omega arith) (let b = u .below in omega arith)
               (length-with-tile (task .tile) _ (r .copy) ∙ r .good .copy-long) is)

@@ -30,19 +30,19 @@ pub length-prediction : (mode : Mode) (t : Tile) (plane : List ℕ) → length (
 unfolding prediction
 length-prediction mode t plane = length-map-counting _ 0 (t .edge * t .edge)
 
-pub length-residual : (source guess : List ℕ) → length (residual source guess) ≡ length guess
+pub length-residual : (source pred : List ℕ) → length (residual source pred) ≡ length pred
 unfolding residual
-length-residual source guess = length-map-counting _ 0 (length guess)
+length-residual source pred = length-map-counting _ 0 (length pred)
 
 -- ---- elements
 
-pub getD-residual : (source guess : List ℕ) (k : ℕ) → k < length guess → getD (residual source guess) k (pos 0) ≡ pos (getD source k 0) -ℤ pos (getD guess k 0)
+pub getD-residual : (source pred : List ℕ) (k : ℕ) → k < length pred → getD (residual source pred) k (pos 0) ≡ pos (getD source k 0) -ℤ pos (getD pred k 0)
 unfolding residual
-getD-residual source guess k h = getD-map-counting _ 0 (length guess) k k (pos 0) h (omega arith)
+getD-residual source pred k h = getD-map-counting _ 0 (length pred) k k (pos 0) h (omega arith)
 
-pub getD-reconstructed : (guess : List ℕ) (back : List ℤ) (k : ℕ) → k < length guess → getD (reconstructed guess back) k 0 ≡ clip (pos (getD guess k 0) +ℤ getD back k (pos 0))
+pub getD-reconstructed : (pred : List ℕ) (rebuilt : List ℤ) (k : ℕ) → k < length pred → getD (reconstructed pred rebuilt) k 0 ≡ clip (pos (getD pred k 0) +ℤ getD rebuilt k (pos 0))
 unfolding reconstructed
-getD-reconstructed guess back k h = getD-map-counting _ 0 (length guess) k k 0 h (omega arith)
+getD-reconstructed pred rebuilt k h = getD-map-counting _ 0 (length pred) k k 0 h (omega arith)
 
 -- ---- bytes
 
@@ -69,9 +69,9 @@ bytes-blank n k = ⊎-elim
     (λ (h : n ≤ k). let e : getD (blank n) k 0 ≡ 0 = getD-past (blank n) k 0 (let l : length (blank n) ≡ n = length-replicate n 128 in omega arith) in omega arith)
     (cases-lt k n)
 
-pub bytes-reconstructed : (guess : List ℕ) (back : List ℤ) → Bytes (reconstructed guess back)
+pub bytes-reconstructed : (pred : List ℕ) (rebuilt : List ℤ) → Bytes (reconstructed pred rebuilt)
 unfolding reconstructed
-bytes-reconstructed guess back = bytes-counted _ (length guess) (λ k. clip-byte (pos (getD guess k 0) +ℤ getD back k (pos 0)))
+bytes-reconstructed pred rebuilt = bytes-counted _ (length pred) (λ k. clip-byte (pos (getD pred k 0) +ℤ getD rebuilt k (pos 0)))
 
 pub bytes-with-tile : (t : Tile) (tile plane : List ℕ) → Bytes tile → Bytes plane → Bytes (with-tile t tile plane)
 unfolding with-tile
@@ -109,12 +109,12 @@ bytes-prediction mode t plane some b = bytes-counted _ (t .edge * t .edge) (λ k
 byte-difference : (s g : ℕ) → s < 256 → g < 256 → (negsuc 254 ≤ℤ (pos s -ℤ pos g)) × ((pos s -ℤ pos g) ≤ℤ pos 255)
 byte-difference s g hs hg = (omega (arith, ints), omega (arith, ints))
 
-pub differences-residual : (source guess : List ℕ) → Bytes source → Bytes guess → Differences (residual source guess)
-differences-residual source guess a b k h =
-    let z = getD-residual source guess k (let l = length-residual source guess in omega arith) in
-    subst (λ (v : ℤ). (negsuc 254 ≤ℤ v) × (v ≤ℤ pos 255)) (sym z) (byte-difference (getD source k 0) (getD guess k 0) (a k) (b k))
+pub differences-residual : (source pred : List ℕ) → Bytes source → Bytes pred → Differences (residual source pred)
+differences-residual source pred a b k h =
+    let z = getD-residual source pred k (let l = length-residual source pred in omega arith) in
+    subst (λ (v : ℤ). (negsuc 254 ≤ℤ v) × (v ≤ℤ pos 255)) (sym z) (byte-difference (getD source k 0) (getD pred k 0) (a k) (b k))
 
--- a value near source less guess, added to the guess and held to a byte, is near the source
+-- a value near source less pred, added to the pred and held to a byte, is near the source
 pub clip-near : (g s d : ℕ) (z : ℤ) → s < 256 → Near z (pos s -ℤ pos g) d → (clip (pos g +ℤ z) ≤ s + d) × (s ≤ clip (pos g +ℤ z) + d)
 clip-near g s d z hs n = go (pos g +ℤ z) refl
   where

@@ -57,21 +57,21 @@ pub record Coded : Type 0 where
   pub levels : List ℤ
 
 unfoldable pub coded : Meaning → End → (plane : List ℕ) → Coding → (source : List ℕ) → (room : List ℤ) → Option Refusal → Option (List ℤ) → Coded
-coded m e plane c source room (Some r) back = record { answer = Err r; end = e; plane = plane; levels = room }
+coded m e plane c source room (Some r) rebuilt = record { answer = Err r; end = e; plane = plane; levels = room }
 coded m e plane c source room None None = record { answer = Err Width; end = e; plane = plane; levels = room }
-coded m e plane c source room None (Some back) = record {
+coded m e plane c source room None (Some rebuilt) = record {
   answer = Ok (record { number = e .count; tag = m .tag; coding = c });
   end = end-of (e .size) (e .count + 1);
-  plane = stored (task-of (e .size) (m .edge) c) plane (Some back);
+  plane = stored (task-of (e .size) (m .edge) c) plane (Some rebuilt);
   levels = code-levels m (task-of (e .size) (m .edge) c) plane source;
 }
 
 -- what the kind makes of the levels that it gave
-abbrev pub code-back : Meaning → End → (plane : List ℕ) → Coding → (source : List ℕ) → Option (List ℤ)
-code-back m e plane c source = m .reconstruction (c .qp) (code-levels m (task-of (e .size) (m .edge) c) plane source)
+abbrev pub code-rebuilt : Meaning → End → (plane : List ℕ) → Coding → (source : List ℕ) → Option (List ℤ)
+code-rebuilt m e plane c source = m .reconstruction (c .qp) (code-levels m (task-of (e .size) (m .edge) c) plane source)
 
 abbrev pub code-call : Meaning → End → (plane : List ℕ) → Coding → (source : List ℕ) → (room : List ℤ) → Coded
-code-call m e plane c source room = coded m e plane c source room (code-refusal m e plane c source room) (code-back m e plane c source)
+code-call m e plane c source room = coded m e plane c source room (code-refusal m e plane c source room) (code-rebuilt m e plane c source)
 
 -- ---- restart, follow and resume
 
@@ -92,12 +92,12 @@ abbrev pub restart-call : End → (plane : List ℕ) → Answered Heading
 restart-call e plane = restarted e plane (restart-refusal e plane)
 
 unfoldable pub followed : Meaning → End → (plane : List ℕ) → Heading → Option Refusal → Option (List ℤ) → Answered (Unit {0})
-followed m e plane h (Some r) back = record { answer = Err r; end = e; plane = plane }
+followed m e plane h (Some r) rebuilt = record { answer = Err r; end = e; plane = plane }
 followed m e plane h None None = record { answer = Err Width; end = e; plane = plane }
-followed m e plane h None (Some back) = record {
+followed m e plane h None (Some rebuilt) = record {
   answer = Ok tt;
   end = end-of (e .size) (e .count + 1);
-  plane = stored (task-of (e .size) (m .edge) (h .coding)) plane (Some back);
+  plane = stored (task-of (e .size) (m .edge) (h .coding)) plane (Some rebuilt);
 }
 
 abbrev pub follow-call : Meaning → End → (plane : List ℕ) → Heading → (levels : List ℤ) → Answered (Unit {0})

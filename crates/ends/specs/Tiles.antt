@@ -57,8 +57,8 @@ prediction mode t plane = map (λ k. predicted mode t plane (k % t .edge) (k / t
 -- ---- residual and reconstruction
 
 -- source less prediction
-unfoldable pub residual : (source guess : List ℕ) → List ℤ
-residual source guess = map (λ k. pos (getD source k 0) -ℤ pos (getD guess k 0)) (counting 0 (length guess))
+unfoldable pub residual : (source pred : List ℕ) → List ℤ
+residual source pred = map (λ k. pos (getD source k 0) -ℤ pos (getD pred k 0)) (counting 0 (length pred))
 
 -- held to 0..255
 abbrev pub clip : ℤ → ℕ
@@ -66,8 +66,8 @@ clip (pos n) = min n 255
 clip (negsuc n) = 0
 
 -- prediction plus reconstructed residual
-unfoldable pub reconstructed : (guess : List ℕ) (back : List ℤ) → List ℕ
-reconstructed guess back = map (λ k. clip (pos (getD guess k 0) +ℤ getD back k (pos 0))) (counting 0 (length guess))
+unfoldable pub reconstructed : (pred : List ℕ) (rebuilt : List ℤ) → List ℕ
+reconstructed pred rebuilt = map (λ k. clip (pos (getD pred k 0) +ℤ getD rebuilt k (pos 0))) (counting 0 (length pred))
 
 -- ---- the plane with the tile stored
 
@@ -91,7 +91,7 @@ with-tile t samples plane =
 abbrev pub code-levels : Meaning → Task → (plane source : List ℕ) → List ℤ
 code-levels m t plane source = m .levels (t .qp) (sort-of (t .mode)) (residual source (prediction (t .mode) (t .tile) plane))
 
--- the plane once the tile's residual came back, or was refused
+-- the plane once the tile's residual was rebuilt, or its levels were refused
 abbrev pub stored : Task → (plane : List ℕ) → Option (List ℤ) → List ℕ
 stored t plane None = plane
-stored t plane (Some back) = with-tile (t .tile) (reconstructed (prediction (t .mode) (t .tile) plane) back) plane
+stored t plane (Some rebuilt) = with-tile (t .tile) (reconstructed (prediction (t .mode) (t .tile) plane) rebuilt) plane

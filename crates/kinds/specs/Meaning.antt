@@ -50,7 +50,7 @@ pub record Facts (m : Meaning) : Type 0 where
       → qp ≤ 51 → length residual ≡ area m → Differences residual
       → length (m .levels qp sort residual) ≡ area m
   -- an accepted residual and its reconstruction differ at each sample by at most the distance
-  pub near : (qp : ℕ) (sort : Sort) (residual back : List ℤ)
+  pub near : (qp : ℕ) (sort : Sort) (residual rebuilt : List ℤ)
       → qp ≤ 51 → length residual ≡ area m → Differences residual
-      → round-trip m qp sort residual ≡ Some back
-      → (k : ℕ) → k < area m → Near (getD back k (pos 0)) (getD residual k (pos 0)) (m .distance qp sort)
+      → round-trip m qp sort residual ≡ Some rebuilt
+      → (k : ℕ) → k < area m → Near (getD rebuilt k (pos 0)) (getD residual k (pos 0)) (m .distance qp sort)
