@@ -1,0 +1,6 @@
+pub mod Answers
+pub mod Kinds
+pub mod Memory
+pub mod State
+pub mod Sides
+pub mod Texts
