@@ -1,6 +1,5 @@
 // Decimal numbers, and lists of them.
 ghost use Prim.Native.Nat.{_≤_};
-ghost use Rattle.std.specs.declared.result.Result.the-variants.{Ok};
 ghost use Rattle.std.specs.Of.Vec.{vec-len};
 ghost use Rattle.std.specs.Vec.{made};
 use crate::command::MOST_NUMBERS;
@@ -36,9 +35,7 @@ pub impl Decimal for i16 as I16Decimal {
 }
 
 // The number that a word is in decimal; `name` is what a fault calls it. A sign in front can only be `-`.
-pub fn number<T: Decimal>(word: &str, name: &'static str) -> Result<T, Fault>
-    ensures { λ r. ⌜ made r (λ value. T·FromStr .reads (now (word .entry)) (Ok value)) ⌝ }
-{
+pub fn number<T: Decimal>(word: &str, name: &'static str) -> Result<T, Fault> {
     match word.parse::<T>() {
         Ok(value) if !word.starts_with('+') => Ok(value),
         _ => Err(Fault::NotNumber(name, T::RANGE)),

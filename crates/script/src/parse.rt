@@ -50,7 +50,7 @@ fn words(heap: Global, line: &str) -> Result<Vec<&str>, AllocError> {
         None => line,
     };
     let mut words = Vec::new(heap);
-    for word in text.split([' ', '\t']) {
+    for word in text.split([' ', '\t', '\r']) {
         if !word.is_empty() {
             words.push(word)?;
         }
