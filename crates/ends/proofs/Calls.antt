@@ -17,7 +17,7 @@ use Rattle.ends.specs.declared.coding.Heading.{Heading}
 use Rattle.ends.specs.declared.end.End.{End}
 use Rattle.ends.specs.declared.refusal.Refusal.{Refusal}
 use Rattle.ends.specs.declared.refusal.Refusal.the-variants.{Width}
-use Rattle.ends.specs.Planes.{bytes, blank}
+use Rattle.ends.specs.Planes.{blank}
 use Rattle.ends.specs.Tiles.{code-levels, stored}
 use Rattle.ends.specs.Refusals.{code-refusal, restart-refusal, follow-refusal, resume-refusal}
 use Rattle.ends.specs.Calls.{end-of, task-of, restart-heading, Coded, Answered, coded, restarted, followed, resumed, code-rebuilt, code-call, restart-call, follow-call, resume-call}

@@ -4,7 +4,7 @@ use mathlib.Core.List.{List}
 use mathlib.Core.Bool.{Bool, true, false, cond}
 use Prim.Native.Nat.{ℕ, _+_, _-_, _*_, _≤_, _<_}
 use native.Mathlib.Omega.{arith}
-use lib.IntN.{ℤ, pos, _+ℤ_, _-ℤ_}
+use lib.IntN.{ℤ, pos, _-ℤ_}
 use lib.ListN.{length, getD}
 use Rattle.std.specs.Options as options
 use Rattle.std.specs.declared.option.Option.{Option}
@@ -17,7 +17,7 @@ use Rattle.ends.specs.declared.coder.Task.{Task}
 use Rattle.ends.specs.declared.plane.Size.{Size}
 use Rattle.ends.specs.declared.tile.Tile.{Tile}
 use Rattle.ends.specs.Planes.{bytes, sample}
-use Rattle.ends.specs.Tiles.{sort-of, clip, prediction, residual, reconstructed, covers, offset, code-levels, stored}
+use Rattle.ends.specs.Tiles.{sort-of, prediction, residual, reconstructed, covers, offset, code-levels, stored}
 use Rattle.ends.specs.Calls.{task-of}
 use Rattle.ends.proofs.Passed.{edge-bounds}
 use Rattle.ends.proofs.Rows.{sample-with-tile}

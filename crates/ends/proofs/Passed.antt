@@ -1,14 +1,13 @@
 -- The first rule that fits, and what is known where none does.
 use mathlib.Core.Path.{_≡_, refl, sym, ap, _∙_}
 use mathlib.Core.List.{List, [], _∷_}
-use mathlib.Core.Bool.{Bool, true, false, cond, not, _&&_, _||_}
+use mathlib.Core.Bool.{Bool, true, false, cond, not, _&&_}
 use mathlib.Core.Logic.{_⊎_, ⊎-elim}
-use Prim.Native.Nat.{ℕ, zero, suc, _*_, _≤_, _<_}
+use Prim.Native.Nat.{ℕ, zero, suc, _≤_, _<_}
 use native.Mathlib.Omega.{arith}
 use lib.Dec.{eqb}
 use lib.IntN.{ℤ}
 use lib.ListN.{length}
-use Rattle.std.specs.declared.option.Option.{Option}
 use Rattle.std.specs.declared.option.Option.the-variants.{Some, None}
 use Rattle.std.proofs.shelf.Tests.{cond-false, or-parts, not-false, eqb-true, ltb-false, and-cases, eqb-false, both-ways}
 use Rattle.kinds.specs.Meaning.{Meaning, Facts, area}
@@ -19,10 +18,9 @@ use Rattle.ends.specs.declared.plane.Size.{Size}
 use Rattle.ends.specs.declared.prediction.Mode.the-variants.{Colocated, Vertical, Horizontal, Mean}
 use Rattle.ends.specs.declared.refusal.Refusal.{Refusal}
 use Rattle.ends.specs.Planes.{bytes}
-use Rattle.ends.specs.Tiles.{mode-of}
-use Rattle.ends.specs.Refusals.{Rules, first-of, spent, bad-plane, bad-place, no-border, tile-rules, code-rules, follow-rules, restart-rules, resume-rules, open-rules, code-refusal, follow-refusal, restart-refusal, resume-refusal, open-refusal}
+use Rattle.ends.specs.Refusals.{Rules, first-of, spent, bad-plane, tile-rules, code-rules, follow-rules, restart-rules, resume-rules, open-rules, code-refusal, follow-refusal, restart-refusal, resume-refusal, open-refusal}
 use Rattle.ends.specs.Calls.{task-of}
-use Rattle.ends.specs.Inner.{Lies, Bordered, Ready}
+use Rattle.ends.specs.Inner.{Ready}
 
 -- a rule that fits would be named before a None
 clash : {A : Type 0} {x : A} → Some x ≡ None → ⊥

@@ -1,5 +1,5 @@
 -- The law over runs, by induction on the calls.
-use mathlib.Core.Path.{_≡_, refl, sym, ap, ap₂, subst, subst₃, _∙_}
+use mathlib.Core.Path.{_≡_, refl, sym, ap, subst, subst₃, _∙_}
 use mathlib.Core.List.{List, [], _∷_, _++_}
 use mathlib.Core.Bool.{Bool, true, false, cond, not, _&&_}
 use mathlib.Core.Logic.{_⊎_, ⊎-elim}
@@ -11,7 +11,7 @@ use lib.ListN.{length, getD}
 use Rattle.std.specs.Results.{isOk}
 use Rattle.std.specs.declared.option.Option.{Option}
 use Rattle.std.specs.declared.option.Option.the-variants.{Some, None}
-use Rattle.std.specs.declared.result.Result.the-variants.{Ok, Err}
+use Rattle.std.specs.declared.result.Result.the-variants.{Err}
 use Rattle.std.proofs.shelf.Bits.{mul-add-lt}
 use Rattle.std.proofs.shelf.Lists.{append-nil, getD-append-left, getD-push, getD-replicate, length-push, length-replicate}
 use Rattle.std.proofs.shelf.Tests.{cases-eq, cases-lt, cases-order, not-from-true, ltb-false, eq-eqb, ne-eqb, lt-ltb, le-ltb, le-leb, lt-leb}
@@ -24,8 +24,8 @@ use Rattle.ends.specs.declared.refusal.Refusal.{Refusal}
 use Rattle.ends.specs.declared.refusal.Refusal.the-variants.{Width}
 use Rattle.ends.specs.Planes.{bytes, sample, blank}
 use Rattle.ends.specs.Tiles.{sort-of, prediction, residual, reconstructed, code-levels, stored}
-use Rattle.ends.specs.Refusals.{spent, code-rules, restart-rules, follow-rules, resume-rules, code-refusal, restart-refusal, follow-refusal, resume-refusal}
-use Rattle.ends.specs.Calls.{end-of, task-of, restart-heading, Coded, Answered, coded, restarted, followed, resumed, code-rebuilt, code-call, restart-call, follow-call, resume-call}
+use Rattle.ends.specs.Refusals.{spent, code-rules, restart-rules, follow-rules, resume-rules, code-refusal, restart-refusal, follow-refusal}
+use Rattle.ends.specs.Calls.{end-of, task-of, restart-heading, Coded, Answered, coded, restarted, followed, resumed, code-rebuilt, code-call, follow-call, resume-call}
 use Rattle.ends.specs.Runs.{Call, code, restart, follow, resume, Pair, opened-alike, next, taken, by-camera, Given, unit, mark, unit-of, mark-of, gives, after, given, planes, coded-by, last-coded, Among, Proper, Proper-call, Run-law}
 use Rattle.ends.proofs.Limit.{Close, code-close, residual-long}
 use Rattle.ends.proofs.Passed.{none-clear, clear-none, hit, edge-bounds}

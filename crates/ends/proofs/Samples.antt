@@ -1,5 +1,5 @@
 -- What predictions, residuals and with-tile tiles hold.
-use mathlib.Core.Path.{_≡_, refl, sym, ap, subst, _∙_}
+use mathlib.Core.Path.{_≡_, refl, sym, subst}
 use mathlib.Core.List.{List, map}
 use mathlib.Core.Bool.{Bool, true, false, cond}
 use mathlib.Core.Logic.{_⊎_, ⊎-elim}
@@ -22,7 +22,7 @@ use Rattle.ends.specs.declared.tile.Tile.{Tile}
 use Rattle.ends.specs.declared.prediction.Mode.{Mode}
 use Rattle.ends.specs.declared.prediction.Mode.the-variants.{Colocated, Vertical, Horizontal, Mean}
 use Rattle.ends.specs.Planes.{sample, blank, row-sum, column-sum}
-use Rattle.ends.specs.Tiles.{prediction, predicted, mean, above, left, residual, clip, reconstructed, covers, offset, with-tile}
+use Rattle.ends.specs.Tiles.{prediction, predicted, mean, above, left, residual, clip, reconstructed, covers, with-tile}
 
 -- ---- lengths
 

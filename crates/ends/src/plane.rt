@@ -1,4 +1,5 @@
-// The samples of a plane. Only read_row and write_row know how they are laid out.
+// A plane: the picture that an end holds, a byte for each sample.
+// Only read_row and write_row know how the samples are laid out.
 ghost use mathlib.Core.Path.{_≡_};
 ghost use mathlib.Core.Bool.{cond};
 ghost use Prim.Native.Nat.{ℕ, _+_, _-_, _*_, _<_, _≤_};

@@ -1,6 +1,6 @@
 // A tile: a square of a plane's samples, and the arithmetic on them, row by row over the tile.
 ghost use mathlib.Core.Path.{_≡_};
-ghost use Prim.Native.Nat.{ℕ, _+_, _*_, _<_, _≤_};
+ghost use Prim.Native.Nat.{ℕ, _+_, _*_, _<_};
 ghost use lib.IntN.{pos, _+ℤ_};
 ghost use lib.ListN.{length, getD};
 ghost use Rattle.ends.specs.Tiles.{residual as residualOf, clip as clipOf, reconstructed, with-tile as withTile};

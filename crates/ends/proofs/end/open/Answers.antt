@@ -1,4 +1,4 @@
-use mathlib.Core.Path.{_≡_, sym, ap, _∙_}
+use mathlib.Core.Path.{sym, ap, _∙_}
 use Rattle.std.specs.declared.result.Result.the-variants.{Ok}
 use Rattle.ends.specs.Planes.{blank}
 use Rattle.ends.specs.Calls.{opened, end-of}

@@ -2,7 +2,7 @@ use borrow.Author.Needs.{needs}
 use mathlib.Core.Path.{_≡_}
 use native.Mathlib.Omega.{arith}
 use Prim.Native.Nat.{ℕ, _+_}
-use lib.ListN.{drop, getD, length}
+use lib.ListN.{drop, getD}
 use mir.Val.{Fits}
 use mir.Syntax.{w8}
 use Rattle.std.specs.shelf.Lists.{sum}

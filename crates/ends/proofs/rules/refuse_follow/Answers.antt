@@ -1,4 +1,3 @@
-use mathlib.Core.Path.{_≡_}
 use native.Mathlib.Omega.{arith}
 use Rattle.ends.proofs.Passed.{edge-bounds}
 use Rattle.ends.proofs.rules.refuse_follow.Needs as need
