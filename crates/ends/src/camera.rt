@@ -45,7 +45,7 @@ impl Camera {
         source: &[u8],
         levels: &mut [i16],
     ) -> Result<Heading, Refusal>
-        ensures { code_call (meaning kind.now) self.old.end plane.old coding source.now levels.old ≡ record { answer = result; end = self.new.end; plane = plane.new; levels = levels.new } }
+        ensures { code_call (K.meaning kind.now) self.old.end plane.old coding source.now levels.old ≡ record { answer = result; end = self.new.end; plane = plane.new; levels = levels.new } }
     {
         if let Some(refusal) = rules::refuse_code(kind, &self.end, plane, coding, source, levels) {
             return Err(refusal);

@@ -22,7 +22,7 @@ pub struct Task {
 }
 
 pub fn task_of<K: Kind>(kind: &K, end: &End, coding: Coding) -> Task
-    ensures { result ≡ task_of end.now.size (meaning kind.now).edge coding }
+    ensures { result ≡ task_of end.now.size (K.meaning kind.now).edge coding }
 {
     Task {
         tile: Tile {
@@ -45,12 +45,12 @@ pub fn code_tile<K: Kind>(
     levels: &mut [i16],
 ) -> Result<(), WidthFault>
     requires ready { Ready task (length plane.old) }
-    requires edge { task.tile.edge ≡ (meaning kind.now).edge }
-    requires source { length source.now ≡ area (meaning kind.now) }
-    requires levels { length levels.old ≡ area (meaning kind.now) }
-    ensures answer { is_ok result ≡ is_some ((meaning kind.now).reconstruction task.qp (code_levels (meaning kind.now) task plane.old source.now)) }
-    ensures plane { plane.new ≡ stored task plane.old ((meaning kind.now).reconstruction task.qp (code_levels (meaning kind.now) task plane.old source.now)) }
-    ensures levels { levels.new ≡ (if is_ok result then code_levels (meaning kind.now) task plane.old source.now else levels.old) }
+    requires edge { task.tile.edge ≡ (K.meaning kind.now).edge }
+    requires source { length source.now ≡ area (K.meaning kind.now) }
+    requires levels { length levels.old ≡ area (K.meaning kind.now) }
+    ensures answer { is_ok result ≡ is_some ((K.meaning kind.now).reconstruction task.qp (code_levels (K.meaning kind.now) task plane.old source.now)) }
+    ensures plane { plane.new ≡ stored task plane.old ((K.meaning kind.now).reconstruction task.qp (code_levels (K.meaning kind.now) task plane.old source.now)) }
+    ensures levels { levels.new ≡ (if is_ok result then code_levels (K.meaning kind.now) task plane.old source.now else levels.old) }
 {
     let area = task.tile.edge * task.tile.edge;
     let mut sample_memory = zero_samples();
@@ -78,10 +78,10 @@ pub fn follow_tile<K: Kind>(
     levels: &[i16],
 ) -> Result<(), WidthFault>
     requires ready { Ready task (length plane.old) }
-    requires edge { task.tile.edge ≡ (meaning kind.now).edge }
-    requires levels { length levels.now ≡ area (meaning kind.now) }
-    ensures answer { is_ok result ≡ is_some ((meaning kind.now).reconstruction task.qp levels.now) }
-    ensures plane { plane.new ≡ stored task plane.old ((meaning kind.now).reconstruction task.qp levels.now) }
+    requires edge { task.tile.edge ≡ (K.meaning kind.now).edge }
+    requires levels { length levels.now ≡ area (K.meaning kind.now) }
+    ensures answer { is_ok result ≡ is_some ((K.meaning kind.now).reconstruction task.qp levels.now) }
+    ensures plane { plane.new ≡ stored task plane.old ((K.meaning kind.now).reconstruction task.qp levels.now) }
 {
     let area = task.tile.edge * task.tile.edge;
     let mut sample_memory = zero_samples();

@@ -44,7 +44,7 @@ impl Handset {
         heading: Heading,
         levels: &[i16],
     ) -> Result<(), Refusal>
-        ensures { follow_call (meaning kind.now) self.old.end plane.old heading levels.now ≡ record { answer = result; end = self.new.end; plane = plane.new } }
+        ensures { follow_call (K.meaning kind.now) self.old.end plane.old heading levels.now ≡ record { answer = result; end = self.new.end; plane = plane.new } }
     {
         if let Some(refusal) = rules::refuse_follow(kind, &self.end, plane, heading, levels) {
             return Err(refusal);

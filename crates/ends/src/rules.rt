@@ -28,7 +28,7 @@ pub fn refuse_code<K: Kind>(
     source: &[u8],
     levels: &[i16],
 ) -> Option<Refusal>
-    ensures { result ≡ code_refusal (meaning kind.now) end.now plane.now coding source.now levels.now }
+    ensures { result ≡ code_refusal (K.meaning kind.now) end.now plane.now coding source.now levels.now }
 {
     let edge = kind.edge();
     let area = edge * edge;
@@ -61,7 +61,7 @@ pub fn refuse_follow<K: Kind>(
     heading: Heading,
     levels: &[i16],
 ) -> Option<Refusal>
-    ensures { result ≡ follow_refusal (meaning kind.now) end.now plane.now heading levels.now }
+    ensures { result ≡ follow_refusal (K.meaning kind.now) end.now plane.now heading levels.now }
 {
     let edge = kind.edge();
     if wrong_plane(end.size, plane.len()) {

@@ -7,8 +7,8 @@ use Rattle.block_kinds.proofs.block.write.Goals as goal
 pub loop-i-preserved : goal.loop-i-preserved
 loop-i-preserved g c =
     below_more _ _
-    (λ k h j l. c.write-row.ensures.before (g.row.N * k + j) (omega (arith, row_end g.row.N k c.loop-i.i h)) ∙ c.loop-i.invariant k h j l)
-    (λ j l. c.write-row.ensures.here j l)
+    (λ k h j l. c.write_row.ensures.before (g.row.N * k + j) (omega (arith, row_end g.row.N k c.loop-i.i h)) ∙ c.loop-i.invariant k h j l)
+    (λ j l. c.write_row.ensures.here j l)
 
 pub returns : goal.returns
 returns g c =

@@ -12,6 +12,6 @@ pub returns : goal.returns
 unfolding opened
 returns c =
     let plane = c.args.plane.now in
-    let none = sym c.in-default.ensures in
+    let none = sym c.in_default.ensures in
     ap (opened c.args.size c.args.first plane) none
     ∙ (λ i. record { answer = Ok (end_of c.args.size c.args.first); plane = sym (c.clear.ensures ∙ ap blank (open_length c.args.size plane none)) i })

@@ -7,15 +7,15 @@ use Rattle.transform4.proofs.inverse.pass_columns.Goals as goal
 pub shortened-requires : goal.shortened-requires
 shortened-requires g c =
     block_short _ c.results-g.result c.requires.most
-    (sym c.block-fits-2.ensures ∙ (split c.block-fits.result c.block-fits-2.result c.if-block-fits.true).1)
+    (sym c.block_fits-2.ensures ∙ (split c.block_fits.result c.block_fits-2.result c.if-block_fits.true).1)
 
-pub returns-then-block-fits : goal.returns-then-block-fits
-returns-then-block-fits g c =
+pub returns-then-block_fits : goal.returns-then-block_fits
+returns-then-block_fits g c =
     ap Some c.shortened.ensures
     ∙ passed_is _ c.args.m c.sums-e.result c.results-g.result true c.sums-e.ensures.value c.results-g.ensures
-    (sym c.if-block-fits.true ∙ ap₂ ◌&&◌ c.block-fits.ensures c.block-fits-2.ensures)
+    (sym c.if-block_fits.true ∙ ap₂ ◌&&◌ c.block_fits.ensures c.block_fits-2.ensures)
 
-pub returns-else-block-fits : goal.returns-else-block-fits
-returns-else-block-fits g c =
+pub returns-else-block_fits : goal.returns-else-block_fits
+returns-else-block_fits g c =
     passed_is _ c.args.m c.sums-e.result c.results-g.result false c.sums-e.ensures.value c.results-g.ensures
-    (sym c.if-block-fits.false ∙ ap₂ ◌&&◌ c.block-fits.ensures c.block-fits-2.ensures)
+    (sym c.if-block_fits.false ∙ ap₂ ◌&&◌ c.block_fits.ensures c.block_fits-2.ensures)

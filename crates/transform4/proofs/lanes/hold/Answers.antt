@@ -5,10 +5,10 @@ use Rattle.transform4.proofs.FourLanes.{block_short}
 use Rattle.transform4.proofs.lanes.hold.Goals as goal
 
 pub shortened-requires : goal.shortened-requires
-shortened-requires c = block_short largest c.args.m (record { le = tt }) (sym c.block-fits.ensures ∙ c.if-block-fits.true)
+shortened-requires c = block_short largest c.args.m (record { le = tt }) (sym c.block_fits.ensures ∙ c.if-block_fits.true)
 
-pub returns-then-block-fits : goal.returns-then-block-fits
-returns-then-block-fits c = ap Some c.shortened.ensures ∙ held_block 4 c.args.m true (sym c.if-block-fits.true ∙ c.block-fits.ensures)
+pub returns-then-block_fits : goal.returns-then-block_fits
+returns-then-block_fits c = ap Some c.shortened.ensures ∙ held_block 4 c.args.m true (sym c.if-block_fits.true ∙ c.block_fits.ensures)
 
-pub returns-else-block-fits : goal.returns-else-block-fits
-returns-else-block-fits c = held_block 4 c.args.m false (sym c.if-block-fits.false ∙ c.block-fits.ensures)
+pub returns-else-block_fits : goal.returns-else-block_fits
+returns-else-block_fits c = held_block 4 c.args.m false (sym c.if-block_fits.false ∙ c.block_fits.ensures)

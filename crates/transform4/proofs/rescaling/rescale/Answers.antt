@@ -6,6 +6,6 @@ use Rattle.transform4.proofs.rescaling.rescale.Goals as goal
 
 pub returns : goal.returns
 returns c = record {
-  value = c.hold.ensures ∙ ap (λ m. all (from (λ i. held 4 largest (row m i)) 0 4)) c.rescale-rows.ensures;
+  value = c.hold.ensures ∙ ap (λ m. all (from (λ i. held 4 largest (row m i)) 0 4)) c.rescale_rows.ensures;
   recommended = recommended_rescaling;
 }

@@ -3,17 +3,17 @@ use Rattle.laws.specs.Blocks.{at}
 use Rattle.laws.proofs.Meant.{Meant, widened, known, product, keep, fits, cons}
 use Rattle.transform4.proofs.rescaling.rescale_row.Goals as goal
 
-pub overflow-mul-result : goal.overflow-mul-result
-overflow-mul-result c = fits (product (widened (at c.args.l 0) (search rules)) (known c.args.even 7424 c.requires.even tt)) tt
+pub overflow_mul-result : goal.overflow_mul-result
+overflow_mul-result c = fits (product (widened (at c.args.l 0) (search rules)) (known c.args.even 7424 c.requires.even tt)) tt
 
-pub overflow-mul-result-2 : goal.overflow-mul-result-2
-overflow-mul-result-2 c = fits (product (widened (at c.args.l 1) (search rules)) (known c.args.odd 7424 c.requires.odd tt)) tt
+pub overflow_mul-result-2 : goal.overflow_mul-result-2
+overflow_mul-result-2 c = fits (product (widened (at c.args.l 1) (search rules)) (known c.args.odd 7424 c.requires.odd tt)) tt
 
-pub overflow-mul-result-3 : goal.overflow-mul-result-3
-overflow-mul-result-3 c = fits (product (widened (at c.args.l 2) (search rules)) (known c.args.even 7424 c.requires.even tt)) tt
+pub overflow_mul-result-3 : goal.overflow_mul-result-3
+overflow_mul-result-3 c = fits (product (widened (at c.args.l 2) (search rules)) (known c.args.even 7424 c.requires.even tt)) tt
 
-pub overflow-mul-result-4 : goal.overflow-mul-result-4
-overflow-mul-result-4 c = fits (product (widened (at c.args.l 3) (search rules)) (known c.args.odd 7424 c.requires.odd tt)) tt
+pub overflow_mul-result-4 : goal.overflow_mul-result-4
+overflow_mul-result-4 c = fits (product (widened (at c.args.l 3) (search rules)) (known c.args.odd 7424 c.requires.odd tt)) tt
 
 pub returns : goal.returns
 returns c =

@@ -8,10 +8,10 @@ product_small : (g k w : ℕ) → g ≤ 5 → k ≤ 8 → w ≤ 201898 → ((g *
 product_small g k w hg hk hw =
     mul-le ((g * 2 ^ k) % 4294967296) w 1280 201898 (omega (arith, mul-le g (2 ^ k) 5 256 hg (pow_mono hk))) hw
 
-pub overflow-mul-result : goal.overflow-mul-result
-overflow-mul-result c =
-    omega (arith, product_small c.error_sixths.result (c.args.qp / 6) c.weighed-factors.result c.error_sixths.ensures.small (quotient_small c.args.qp c.requires) c.weighed-factors.ensures.small)
+pub overflow_mul-result : goal.overflow_mul-result
+overflow_mul-result c =
+    omega (arith, product_small c.error_sixths.result (c.args.qp / 6) c.weighed_factors.result c.error_sixths.ensures.small (quotient_small c.args.qp c.requires) c.weighed_factors.ensures.small)
 
-pub overflow-add-result : goal.overflow-add-result
-overflow-add-result c =
-    omega (arith, product_small c.error_sixths.result (c.args.qp / 6) c.weighed-factors.result c.error_sixths.ensures.small (quotient_small c.args.qp c.requires) c.weighed-factors.ensures.small)
+pub overflow_add-result : goal.overflow_add-result
+overflow_add-result c =
+    omega (arith, product_small c.error_sixths.result (c.args.qp / 6) c.weighed_factors.result c.error_sixths.ensures.small (quotient_small c.args.qp c.requires) c.weighed_factors.ensures.small)

@@ -13,18 +13,18 @@ last o = then (then o (λ c. Some (transposed 8 c))) (λ c. Some (rounded eight 
 next : Option (List (List ℤ)) → Option (List (List ℤ))
 next o = then o (λ r. then (columns_passed eight r) (λ c. Some (rounded eight c)))
 
-pub returns-in-err-rows : goal.returns-in-err-rows
+pub returns-in_err-rows : goal.returns-in_err-rows
 unfolding next
-returns-in-err-rows c = c.from-residual.ensures ∙ ap next (c.in-err-rows.ensures ∙ ap (passed_columns largest) c.transposed.ensures)
+returns-in_err-rows c = c.from_residual.ensures ∙ ap next (c.in_err-rows.ensures ∙ ap (passed_columns largest) c.transposed.ensures)
 
-pub returns-in-err-columns : goal.returns-in-err-columns
+pub returns-in_err-columns : goal.returns-in_err-columns
 unfolding last next
-returns-in-err-columns c =
-    c.from-residual-in-err-columns.ensures ∙ ap last c.in-err-columns.ensures
-    ∙ ap next (c.in-ok-rows.ensures ∙ ap (passed_columns largest) c.transposed.ensures)
+returns-in_err-columns c =
+    c.from_residual-in_err-columns.ensures ∙ ap last c.in_err-columns.ensures
+    ∙ ap next (c.in_ok-rows.ensures ∙ ap (passed_columns largest) c.transposed.ensures)
 
 pub returns : goal.returns
 unfolding last next
 returns c =
-    ap Some (c.round.ensures ∙ ap (rounded eight) c.transposed-2.ensures) ∙ ap last c.in-ok-columns.ensures
-    ∙ ap next (c.in-ok-rows.ensures ∙ ap (passed_columns largest) c.transposed.ensures)
+    ap Some (c.round.ensures ∙ ap (rounded eight) c.transposed-2.ensures) ∙ ap last c.in_ok-columns.ensures
+    ∙ ap next (c.in_ok-rows.ensures ∙ ap (passed_columns largest) c.transposed.ensures)

@@ -9,7 +9,7 @@ loop-j-init g c = done_none 8 _ _ refl
 
 pub loop-j-preserved : goal.loop-j-preserved
 loop-j-preserved g c =
-    done_more 8 _ _ _ _ _ c.loop-j.j c.loop-j-test.true (c.pass-line-line.ensures ∙ ap (pass8 _) c.column.ensures) c.loop-j.invariant
+    done_more 8 _ _ _ _ _ c.loop-j.j c.loop-j-test.true (c.pass_line-line.ensures ∙ ap (pass8 _) c.column.ensures) c.loop-j.invariant
 
 pub shortened-requires : goal.shortened-requires
 shortened-requires g c = all_short _ c.requires (column 8 c.args.m) c.loop-j.invariant c.if-fits.true c.loop-j-test.false

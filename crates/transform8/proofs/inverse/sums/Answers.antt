@@ -3,32 +3,32 @@ use Rattle.transform8.proofs.EightLines.{line, same}
 use Rattle.transform8.proofs.inverse.sums.Goals as goal
 
 -- d5 - d3 - d7 - (d7 >> 1)
-pub overflow-sub-result-2 : goal.overflow-sub-result-2
-overflow-sub-result-2 c = let d = line c.args.d 32768 c.requires tt in fits (difference (keep (difference d.5 d.3) tt) d.7) tt
+pub overflow_sub-result-2 : goal.overflow_sub-result-2
+overflow_sub-result-2 c = let d = line c.args.d 32768 c.requires tt in fits (difference (keep (difference d.5 d.3) tt) d.7) tt
 
-pub overflow-sub-result-3 : goal.overflow-sub-result-3
-overflow-sub-result-3 c = let d = line c.args.d 32768 c.requires tt in fits (difference (keep (difference (keep (difference d.5 d.3) tt) d.7) tt) (shifted 2 d.7 tt)) tt
+pub overflow_sub-result-3 : goal.overflow_sub-result-3
+overflow_sub-result-3 c = let d = line c.args.d 32768 c.requires tt in fits (difference (keep (difference (keep (difference d.5 d.3) tt) d.7) tt) (shifted 2 d.7 tt)) tt
 
 -- d1 + d7 - d3 - (d3 >> 1)
-pub overflow-sub-result-5 : goal.overflow-sub-result-5
-overflow-sub-result-5 c = let d = line c.args.d 32768 c.requires tt in fits (difference (keep (sum d.1 d.7) tt) d.3) tt
+pub overflow_sub-result-5 : goal.overflow_sub-result-5
+overflow_sub-result-5 c = let d = line c.args.d 32768 c.requires tt in fits (difference (keep (sum d.1 d.7) tt) d.3) tt
 
-pub overflow-sub-result-6 : goal.overflow-sub-result-6
-overflow-sub-result-6 c = let d = line c.args.d 32768 c.requires tt in fits (difference (keep (difference (keep (sum d.1 d.7) tt) d.3) tt) (shifted 2 d.3 tt)) tt
+pub overflow_sub-result-6 : goal.overflow_sub-result-6
+overflow_sub-result-6 c = let d = line c.args.d 32768 c.requires tt in fits (difference (keep (difference (keep (sum d.1 d.7) tt) d.3) tt) (shifted 2 d.3 tt)) tt
 
 -- d7 - d1 + d5 + (d5 >> 1)
-pub overflow-add-result-3 : goal.overflow-add-result-3
-overflow-add-result-3 c = let d = line c.args.d 32768 c.requires tt in fits (sum (keep (difference d.7 d.1) tt) d.5) tt
+pub overflow_add-result-3 : goal.overflow_add-result-3
+overflow_add-result-3 c = let d = line c.args.d 32768 c.requires tt in fits (sum (keep (difference d.7 d.1) tt) d.5) tt
 
-pub overflow-add-result-4 : goal.overflow-add-result-4
-overflow-add-result-4 c = let d = line c.args.d 32768 c.requires tt in fits (sum (keep (sum (keep (difference d.7 d.1) tt) d.5) tt) (shifted 2 d.5 tt)) tt
+pub overflow_add-result-4 : goal.overflow_add-result-4
+overflow_add-result-4 c = let d = line c.args.d 32768 c.requires tt in fits (sum (keep (sum (keep (difference d.7 d.1) tt) d.5) tt) (shifted 2 d.5 tt)) tt
 
 -- d3 + d5 + d1 + (d1 >> 1)
-pub overflow-add-result-7 : goal.overflow-add-result-7
-overflow-add-result-7 c = let d = line c.args.d 32768 c.requires tt in fits (sum (keep (sum d.3 d.5) tt) d.1) tt
+pub overflow_add-result-7 : goal.overflow_add-result-7
+overflow_add-result-7 c = let d = line c.args.d 32768 c.requires tt in fits (sum (keep (sum d.3 d.5) tt) d.1) tt
 
-pub overflow-add-result-8 : goal.overflow-add-result-8
-overflow-add-result-8 c = let d = line c.args.d 32768 c.requires tt in fits (sum (keep (sum (keep (sum d.3 d.5) tt) d.1) tt) (shifted 2 d.1 tt)) tt
+pub overflow_add-result-8 : goal.overflow_add-result-8
+overflow_add-result-8 c = let d = line c.args.d 32768 c.requires tt in fits (sum (keep (sum (keep (sum d.3 d.5) tt) d.1) tt) (shifted 2 d.1 tt)) tt
 
 pub returns : goal.returns
 returns c =

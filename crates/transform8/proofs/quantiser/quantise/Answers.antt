@@ -9,11 +9,11 @@ returns c =
     let w = c.args.coefficients in let s = 22 + c.args.qp / 6 in
     let m = c.multipliers.ensures.value in let f = c.rounding-add.ensures.value in
     same
-    (c.quantise-row.ensures ∙ quantised_row (row w 0) 0 3 4 s m f)
-    (c.quantise-row-2.ensures ∙ quantised_row (row w 1) 3 1 5 s m f)
-    (c.quantise-row-3.ensures ∙ quantised_row (row w 2) 4 5 2 s m f)
-    (c.quantise-row-4.ensures ∙ quantised_row (row w 3) 3 1 5 s m f)
-    (c.quantise-row-5.ensures ∙ quantised_row (row w 4) 0 3 4 s m f)
-    (c.quantise-row-6.ensures ∙ quantised_row (row w 5) 3 1 5 s m f)
-    (c.quantise-row-7.ensures ∙ quantised_row (row w 6) 4 5 2 s m f)
-    (c.quantise-row-8.ensures ∙ quantised_row (row w 7) 3 1 5 s m f)
+    (c.quantise_row.ensures ∙ quantised_row (row w 0) 0 3 4 s m f)
+    (c.quantise_row-2.ensures ∙ quantised_row (row w 1) 3 1 5 s m f)
+    (c.quantise_row-3.ensures ∙ quantised_row (row w 2) 4 5 2 s m f)
+    (c.quantise_row-4.ensures ∙ quantised_row (row w 3) 3 1 5 s m f)
+    (c.quantise_row-5.ensures ∙ quantised_row (row w 4) 0 3 4 s m f)
+    (c.quantise_row-6.ensures ∙ quantised_row (row w 5) 3 1 5 s m f)
+    (c.quantise_row-7.ensures ∙ quantised_row (row w 6) 4 5 2 s m f)
+    (c.quantise_row-8.ensures ∙ quantised_row (row w 7) 3 1 5 s m f)

@@ -11,8 +11,8 @@ returns-in-Some g c =
     code_refused (g.K.Kind.meaning c.args.kind.now) c.args.self.now.end c.args.plane.now c.args.coding c.args.source.now c.args.levels.now
     c.in-Some.refusal (sym c.in-Some.ensures)
 
-pub code-tile-requires : goal.code-tile-requires
-code-tile-requires g c =
+pub code_tile-requires : goal.code_tile-requires
+code_tile-requires g c =
     let m = g.K.Kind.meaning c.args.kind.now in
     let facts = g.met.K.Kind.facts c.args.kind.now in
     let e = c.args.self.now.end in
@@ -20,8 +20,8 @@ code-tile-requires g c =
     let d = c.args.coding in
     let source = c.args.source.now in
     let room = c.args.levels.now in
-    let none : code_refusal m e plane d source room ≡ None = sym c.in-default.ensures in
-    let is = c.task-of-task.ensures in
+    let none : code_refusal m e plane d source room ≡ None = sym c.in_default.ensures in
+    let is = c.task_of-task.ensures in
     let lengths = code_lengths m facts e plane d source room none in
     record {
       ready = subst (λ (t : Task). Ready t (length plane)) (sym is) (code_ready m facts e plane d source room none);
@@ -30,20 +30,20 @@ code-tile-requires g c =
       levels = lengths.1;
     }
 
-pub returns-in-default-code-tile : goal.returns-in-default-code-tile
-returns-in-default-code-tile g c =
-    let h = c.in-default-code-tile.ensures in
+pub returns-in_default-code_tile : goal.returns-in_default-code_tile
+returns-in_default-code_tile g c =
+    let h = c.in_default-code_tile.ensures in
     code_width (g.K.Kind.meaning c.args.kind.now) c.args.self.now.end c.args.plane.now c.args.coding c.args.source.now c.args.levels.now
-    (sym c.in-default.ensures) c.task-of-task.result c.task-of-task.ensures _ _ h.answer h.plane h.levels
+    (sym c.in_default.ensures) c.task_of-task.result c.task_of-task.ensures _ _ h.answer h.plane h.levels
 
 pub advance-requires : goal.advance-requires
 advance-requires g c =
     code_unspent (g.K.Kind.meaning c.args.kind.now) (g.met.K.Kind.facts c.args.kind.now) c.args.self.now.end c.args.plane.now c.args.coding c.args.source.now c.args.levels.now
-    (sym c.in-default.ensures)
+    (sym c.in_default.ensures)
 
 pub returns : goal.returns
 returns g c =
     let h = c.in-Ok.ensures in
     code_taken (g.K.Kind.meaning c.args.kind.now) c.args.self.now.end c.args.plane.now c.args.coding c.args.source.now c.args.levels.now
-    (sym c.in-default.ensures) c.task-of-task.result c.task-of-task.ensures
+    (sym c.in_default.ensures) c.task_of-task.result c.task_of-task.ensures
     _ _ _ _ _ h.answer c.advance.ensures.number c.tag.ensures c.advance.ensures.end h.plane h.levels

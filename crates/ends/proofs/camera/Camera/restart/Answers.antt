@@ -9,9 +9,9 @@ returns-in-Some c = restart_refused c.args.self.now.end c.args.plane.now c.in-So
 
 pub advance-requires : goal.advance-requires
 advance-requires c =
-    restart_unspent c.args.self.now.end c.args.plane.now (sym c.in-default.ensures)
+    restart_unspent c.args.self.now.end c.args.plane.now (sym c.in_default.ensures)
 
 pub returns : goal.returns
 returns c =
-    restart_taken c.args.self.now.end c.args.plane.now _ _ _ (sym c.in-default.ensures)
+    restart_taken c.args.self.now.end c.args.plane.now _ _ _ (sym c.in_default.ensures)
     (c.restart.ensures ∙ ap restart_heading c.advance.ensures.number) c.advance.ensures.end c.clear.ensures

@@ -11,35 +11,35 @@ returns-in-Some g c =
     follow_refused (g.K.Kind.meaning c.args.kind.now) c.args.self.now.end c.args.plane.now c.args.heading c.args.levels.now
     c.in-Some.refusal (sym c.in-Some.ensures)
 
-pub follow-tile-requires : goal.follow-tile-requires
-follow-tile-requires g c =
+pub follow_tile-requires : goal.follow_tile-requires
+follow_tile-requires g c =
     let m = g.K.Kind.meaning c.args.kind.now in
     let facts = g.met.K.Kind.facts c.args.kind.now in
     let e = c.args.self.now.end in
     let plane = c.args.plane.now in
     let h = c.args.heading in
     let levels = c.args.levels.now in
-    let none : follow_refusal m e plane h levels ≡ None = sym c.in-default.ensures in
-    let is = c.task-of-task.ensures in
+    let none : follow_refusal m e plane h levels ≡ None = sym c.in_default.ensures in
+    let is = c.task_of-task.ensures in
     record {
       ready = subst (λ (t : Task). Ready t (length plane)) (sym is) (follow_ready m facts e plane h levels none);
       edge = ap (λ (t : Task). t.tile.edge) is;
       levels = follow_length m facts e plane h levels none;
     }
 
-pub returns-in-default-follow-tile : goal.returns-in-default-follow-tile
-returns-in-default-follow-tile g c =
-    let h = c.in-default-follow-tile.ensures in
+pub returns-in_default-follow_tile : goal.returns-in_default-follow_tile
+returns-in_default-follow_tile g c =
+    let h = c.in_default-follow_tile.ensures in
     follow_width (g.K.Kind.meaning c.args.kind.now) c.args.self.now.end c.args.plane.now c.args.heading c.args.levels.now
-    (sym c.in-default.ensures) c.task-of-task.result c.task-of-task.ensures _ h.answer h.plane
+    (sym c.in_default.ensures) c.task_of-task.result c.task_of-task.ensures _ h.answer h.plane
 
 pub advance-requires : goal.advance-requires
 advance-requires g c =
     follow_unspent (g.K.Kind.meaning c.args.kind.now) (g.met.K.Kind.facts c.args.kind.now) c.args.self.now.end c.args.plane.now c.args.heading c.args.levels.now
-    (sym c.in-default.ensures)
+    (sym c.in_default.ensures)
 
 pub returns : goal.returns
 returns g c =
     let h = c.in-Ok.ensures in
     follow_taken (g.K.Kind.meaning c.args.kind.now) c.args.self.now.end c.args.plane.now c.args.heading c.args.levels.now
-    (sym c.in-default.ensures) c.task-of-task.result c.task-of-task.ensures _ _ h.answer c.advance.ensures.end h.plane
+    (sym c.in_default.ensures) c.task_of-task.result c.task_of-task.ensures _ _ h.answer c.advance.ensures.end h.plane

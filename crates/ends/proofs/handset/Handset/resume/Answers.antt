@@ -6,8 +6,8 @@ use Rattle.ends.proofs.handset.Handset.resume.Goals as goal
 pub returns-in-Some : goal.returns-in-Some
 returns-in-Some c = resume_refused c.args.self.now.end c.args.plane.now c.args.heading c.in-Some.refusal (sym c.in-Some.ensures)
 
-pub advance-past-requires : goal.advance-past-requires
-advance-past-requires c = resume_unspent c.args.self.now.end c.args.plane.now c.args.heading (sym c.in-default.ensures)
+pub advance_past-requires : goal.advance_past-requires
+advance_past-requires c = resume_unspent c.args.self.now.end c.args.plane.now c.args.heading (sym c.in_default.ensures)
 
 pub returns : goal.returns
-returns c = resume_taken c.args.self.now.end c.args.plane.now c.args.heading _ _ (sym c.in-default.ensures) c.advance-past.ensures c.clear.ensures
+returns c = resume_taken c.args.self.now.end c.args.plane.now c.args.heading _ _ (sym c.in_default.ensures) c.advance_past.ensures c.clear.ensures
