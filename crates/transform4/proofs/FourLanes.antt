@@ -1,6 +1,6 @@
 -- Four numbers side by side: what is computed of them, and how large it is.
 use Rattle.std.proofs.Common.{◌≡◌, ℕ, zero, suc, ◌+◌, ◌<◌, ◌≤◌, Bool, true, ◌&&◌, List, ℤ, ◌+ℤ◌, ◌-ℤ◌, nat_abs, ◌≤ℤ◌, sym, subst, arith, lit<}
-use mathlib.Core.Bool.{and_assoc, and_true}
+use mathlib.Core.Bool.{and_assoc, and-true}
 use lib.Signed.{shr_z}
 use Rattle.laws.specs.Blocks.{at, row, from, transposed}
 use Rattle.laws.specs.Widths.{largest, every, fits}
@@ -49,7 +49,7 @@ difference_room a b {r} m n e p q s = wider (m + n) 536870912 r s (difference_si
 
 -- tests joined with &, as the code has them and as the definitions have them
 pub and4 : {a b c d a' b' c' d' : Bool} → a ≡ a' → b ≡ b' → c ≡ c' → d ≡ d' → (a && b && c && d) ≡ (a' && (b' && (c' && (d' && true))))
-and4 p q r s = simp (p, q, r, s, and_assoc, and_true)
+and4 p q r s = simp (p, q, r, s, and_assoc, and-true)
 
 line_short : (most : ℤ) (d : List ℤ) → most ≤ℤ largest → fits 4 most d ≡ true → Short d
 line_short most d l f =

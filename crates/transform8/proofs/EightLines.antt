@@ -1,6 +1,6 @@
 -- Lines of eight numbers: what is computed of them, their tests, and proofs about each of the eight.
 use Rattle.std.proofs.Common.{◌≡◌, ℕ, zero, suc, ◌<◌, ◌≤◌, Bool, true, ◌&&◌, List, [], ◌∷◌, ℤ, nat_abs, ◌≤ℤ◌, refl, arith, lit<, w16, SFits}
-use mathlib.Core.Bool.{and_assoc, and_true}
+use mathlib.Core.Bool.{and_assoc, and-true}
 use Rattle.laws.specs.Blocks.{at, row}
 use Rattle.laws.specs.Widths.{largest, within, every, fits}
 use Rattle.laws.proofs.Meant.{Meant, Small, kept, known, cons}
@@ -36,7 +36,7 @@ line d n p s =
 pub and8 : {a b c d e f g h a' b' c' d' e' f' g' h' : Bool}
     → a ≡ a' → b ≡ b' → c ≡ c' → d ≡ d' → e ≡ e' → f ≡ f' → g ≡ g' → h ≡ h'
     → (a && b && c && d && e && f && g && h) ≡ (a' && (b' && (c' && (d' && (e' && (f' && (g' && (h' && true))))))))
-and8 p q r s t u v w = simp (p, q, r, s, t, u, v, w, and_assoc, and_true)
+and8 p q r s t u v w = simp (p, q, r, s, t, u, v, w, and_assoc, and-true)
 
 -- a test of eight places, at one of them
 pub every_at : (t : ℕ → Bool) → every t 0 8 ≡ true → (i : ℕ) → i < 8 → t i ≡ true
