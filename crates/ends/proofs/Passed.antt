@@ -1,5 +1,5 @@
 -- The first rule that fits, and what is known where none does.
-use Rattle.std.proofs.Common.{◌≡◌, ℕ, zero, suc, ◌<◌, ◌≤◌, Bool, true, false, cond, not, ◌&&◌, eqb, ◌⊎◌, List, [], ◌∷◌, length, ℤ, Some, None, sym, refl, ap, ◌∙◌, ⊎_elim, arith}
+use Rattle.std.proofs.Common.{◌≡◌, ℕ, zero, suc, ◌<◌, ◌≤◌, Bool, true, false, cond, not, ◌&&◌, eqb, List, [], ◌∷◌, length, ℤ, Some, None, sym, refl, ap, ◌∙◌, ⊎_elim, arith}
 use Rattle.std.proofs.lemmas.Bool.{cond-false, or_parts, not-false, eqb-true, ltb-false, and_cases, eqb-false, both_ways}
 use Rattle.kinds.specs.Meaning.{Meaning, Facts, area}
 use Rattle.ends.specs.declared.coding.Coding.{Coding}

@@ -1,6 +1,8 @@
 // The two ends of the monitor, the upper layer: a camera codes tiles of its plane, a handset follows.
 // camera, handset: the public calls; their contracts pin every answer, and carry the law over all runs.
 // Below them: rules (refusals), coder (a tile through a kind), prediction, tile, plane. Kinds are used by their promise alone.
+#![tactic(auto)]
+
 mod camera;
 mod coder;
 mod coding;

@@ -1,4 +1,6 @@
 // Replays a script: reads it from standard input, one command a line, and prints the answers.
+#![tactic(auto)]
+
 use anyhow::anyhow;
 use script::Session;
 use std::io::{BufRead, BufReader, BufWriter, Write};

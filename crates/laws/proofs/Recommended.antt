@@ -1,5 +1,5 @@
 -- The Recommendation's form of rescaling a 4 by 4 level is level × v × 2^k: what it adds to round is shifted out again.
-use Rattle.std.proofs.Common.{◌≡◌, ℕ, zero, suc, ◌*◌, ◌≤◌, ℤ, pos, ◌+ℤ◌, ◌*ℤ◌, ap, ◌∙◌, arith, lit<}
+use Rattle.std.proofs.Common.{◌≡◌, ℕ, zero, suc, ◌*◌, ℤ, pos, ◌+ℤ◌, ◌*ℤ◌, ap, ◌∙◌, arith, lit<}
 use lib.IntN.{*ℤ_comm}
 use lib.Signed.{shr_z}
 use borrow.Author.Differences.{product_is, sum_is_lem, same_in}

@@ -1,5 +1,5 @@
 -- QP mod 6 has six values, and QP / 6 at most nine.
-use Rattle.std.proofs.Common.{ℕ, zero, suc, ◌/◌, ◌%◌, ◌^◌, ◌<◌, ◌≤◌, arith, lit<}
+use Rattle.std.proofs.Common.{ℕ, zero, suc, ◌/◌, ◌%◌, ◌<◌, ◌≤◌, arith, lit<}
 use Rattle.std.proofs.lemmas.Nat.{mod_below}
 
 cases6 : (P : ℕ → Type 0) → P 0 → P 1 → P 2 → P 3 → P 4 → P 5 → (r : ℕ) → r < 6 → P r

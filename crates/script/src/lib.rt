@@ -1,6 +1,8 @@
 // A script that drives both ends of the monitor: one command a line, one answer a command.
 // parse reads a line into a command, session runs it, answer and fault write the text of what came of it.
 // A line in error, and a call that is refused, leaves the session as it was.
+#![tactic(auto)]
+
 mod answer;
 mod camera_side;
 mod command;

@@ -1,5 +1,5 @@
 -- Four columns side by side: one test at the end is as good as the tests of each column.
-use Rattle.std.proofs.Common.{◌≡◌, ℕ, Bool, cond, ◌&&◌, List, ℤ, pos, Some, None, Option, sym, refl, ap, ◌∙◌}
+use Rattle.std.proofs.Common.{◌≡◌, Bool, cond, ◌&&◌, List, ℤ, Some, None, Option, sym, refl, ap, ◌∙◌}
 use Rattle.laws.specs.Blocks.{at, row, cells, block, from, column, transposed}
 use Rattle.laws.specs.Widths.{largest, largest_column, every, within, fits, held, then, all}
 use Rattle.laws.specs.Transform.{columns_passed, rounded}

@@ -1,7 +1,7 @@
 -- What inner functions ask of their callers and tell them: sizes of lines, and passes over columns side by side.
 use Rattle.std.specs.Prelude.{ℕ, zero, suc, ◌≤◌, List, ℤ, Some, Option, FitsSigned, unsigned_abs}
 use Rattle.std.specs.Int.{w16}
-use Rattle.laws.specs.Blocks.{at, from, row, column, transposed}
+use Rattle.laws.specs.Blocks.{at, from, column, transposed}
 use Rattle.laws.specs.Widths.{then, all}
 use Rattle.laws.specs.Four.{sums4, results4, pass4}
 

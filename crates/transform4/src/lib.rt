@@ -1,6 +1,8 @@
 // The 4 by 4 transform with its quantiser: from a residual to levels, and from levels back to a residual.
 // Each public function is one step over a whole block, equal to the step of the same name in the crate `laws`.
 // Inside a step numbers have 32 bits; between steps a block is an array of rows by value.
+#![tactic(auto)]
+
 mod distance_limit;
 mod forward;
 mod inverse;

@@ -1,11 +1,11 @@
 -- The fast forward steps are the matrix product, and leave room for one another.
-use Rattle.std.proofs.Common.{◌≡◌, ℕ, zero, suc, ◌*◌, ◌%◌, ◌<◌, ◌≤◌, List, [], ◌∷◌, ℤ, pos, negsuc, ◌+ℤ◌, ◌*ℤ◌, nat_abs, ap, ◌∙◌, le_trans, arith, lit<, lit≤}
+use Rattle.std.proofs.Common.{◌≡◌, ℕ, zero, suc, ◌*◌, ◌%◌, ◌<◌, ◌≤◌, List, [], ◌∷◌, ℤ, pos, negsuc, ◌*ℤ◌, nat_abs, ap, ◌∙◌, le_trans, arith, lit<, lit≤}
 use borrow.Author.Differences.{ints, same_in}
 use Rattle.laws.specs.Blocks.{at, row, cells, from, column, dot}
 use Rattle.laws.specs.Transform.{half_product}
 use Rattle.laws.specs.Eight.{eight, forward8, group8}
 use Rattle.laws.proofs.Linear.{dot_is}
-use Rattle.laws.proofs.Meant.{Meant, kept, known, sum, product, keep}
+use Rattle.laws.proofs.Meant.{Meant, kept, known, product}
 use Rattle.laws.proofs.Sizes.{line_size}
 use Rattle.laws.proofs.Eight.{reach, sound8}
 use Rattle.transform8.specs.Inner.{Each, Sized, Sized4, mirror_sums, mirror_differences, forward_columns}

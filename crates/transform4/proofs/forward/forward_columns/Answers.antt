@@ -1,7 +1,7 @@
 use Rattle.std.proofs.Common.{refl, ◌∙◌}
 use Rattle.laws.specs.Blocks.{row}
 use Rattle.laws.proofs.Meant.{cons}
-use Rattle.transform4.proofs.FourLanes.{sum_sized, difference_sized, sum_room, difference_room, wider}
+use Rattle.transform4.proofs.FourLanes.{difference_sized, sum_room, difference_room}
 use Rattle.transform4.proofs.FourForward.{row0, row1, row2, row3}
 use Rattle.transform4.proofs.forward.forward_columns.Goals as goal
 

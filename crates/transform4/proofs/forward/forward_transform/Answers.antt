@@ -1,4 +1,4 @@
-use Rattle.std.proofs.Common.{List, ℤ, sym, ◌∙◌, subst}
+use Rattle.std.proofs.Common.{List, ℤ, sym, subst}
 use Rattle.laws.specs.Blocks.{row}
 use Rattle.transform4.specs.Inner.{Each, Sized}
 use Rattle.transform4.proofs.FourLanes.{block_sized}

@@ -1,4 +1,4 @@
-use Rattle.std.proofs.Common.{◌≡◌, Some, ap, ◌∙◌}
+use Rattle.std.proofs.Common.{Some, ap, ◌∙◌}
 use Rattle.laws.specs.Blocks.{transposed}
 use Rattle.laws.specs.Widths.{largest, largest_column}
 use Rattle.laws.specs.Transform.{rows_passed}

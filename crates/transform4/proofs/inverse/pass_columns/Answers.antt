@@ -1,4 +1,4 @@
-use Rattle.std.proofs.Common.{◌≡◌, true, false, ◌&&◌, Some, sym, ap, ◌∙◌, ap₂}
+use Rattle.std.proofs.Common.{true, false, ◌&&◌, Some, sym, ap, ◌∙◌, ap₂}
 use Rattle.laws.proofs.Steps.{split}
 use Rattle.transform4.proofs.FourLanes.{block_short}
 use Rattle.transform4.proofs.FourPass.{passed_is}

@@ -1,4 +1,4 @@
-use Rattle.std.proofs.Common.{◌≡◌, ◌+ℤ◌, ◌-ℤ◌, refl, ap, ◌∙◌}
+use Rattle.std.proofs.Common.{◌+ℤ◌, ◌-ℤ◌, refl, ap, ◌∙◌}
 use Rattle.laws.specs.Blocks.{at, from, row}
 use Rattle.laws.proofs.Meant.{cons}
 use Rattle.transform4.proofs.FourLanes.{sum_sized, difference_sized, half_sized}

@@ -1,4 +1,4 @@
-use Rattle.std.proofs.Common.{ℕ, ◌+◌, ◌/◌, refl, ◌∙◌}
+use Rattle.std.proofs.Common.{◌+◌, ◌/◌, refl, ◌∙◌}
 use Rattle.laws.specs.Blocks.{row}
 use Rattle.laws.proofs.Meant.{cons}
 use Rattle.transform4.proofs.FourRows.{quantised_row}

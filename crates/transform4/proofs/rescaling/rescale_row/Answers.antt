@@ -1,6 +1,6 @@
-use Rattle.std.proofs.Common.{◌≤◌, ℤ, nat_abs, refl, w16, SFits, rules}
+use Rattle.std.proofs.Common.{refl, rules}
 use Rattle.laws.specs.Blocks.{at}
-use Rattle.laws.proofs.Meant.{Meant, widened, known, product, keep, fits, cons}
+use Rattle.laws.proofs.Meant.{widened, known, product, keep, fits, cons}
 use Rattle.transform4.proofs.rescaling.rescale_row.Goals as goal
 
 pub overflow_mul-result : goal.overflow_mul-result

@@ -1,4 +1,4 @@
-use Rattle.std.proofs.Common.{◌≡◌, ℕ, ◌*◌, ◌/◌, ◌%◌, ◌^◌, List, ℤ, pos, refl, ap, ◌∙◌}
+use Rattle.std.proofs.Common.{◌≡◌, ◌*◌, ◌/◌, ◌%◌, ◌^◌, List, ℤ, pos, refl, ap, ◌∙◌}
 use Rattle.laws.specs.Blocks.{at, row}
 use Rattle.laws.specs.Four.{v4}
 use Rattle.laws.proofs.Meant.{kept, known, cons}

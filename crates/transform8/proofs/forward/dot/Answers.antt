@@ -1,4 +1,4 @@
-use Rattle.std.proofs.Common.{◌≡◌, ℤ, ◌+ℤ◌, ◌*ℤ◌, sym, ap, ◌∙◌}
+use Rattle.std.proofs.Common.{◌+ℤ◌, ◌*ℤ◌, sym, ap, ◌∙◌}
 use lib.IntN.{+ℤ_idr}
 use Rattle.laws.specs.Blocks.{at}
 use Rattle.laws.proofs.Meant.{sum, keep, fits}

@@ -1,4 +1,4 @@
-use Rattle.std.proofs.Common.{◌≡◌, List, ℤ, Some, Option, ap, ◌∙◌}
+use Rattle.std.proofs.Common.{List, ℤ, Some, Option, ap, ◌∙◌}
 use Rattle.laws.specs.Blocks.{transposed}
 use Rattle.laws.specs.Widths.{largest, then}
 use Rattle.laws.specs.Transform.{columns_passed, rounded}

@@ -1,4 +1,4 @@
-use Rattle.std.proofs.Common.{ℕ, ◌%◌, ◌≤◌, refl, lit≤}
+use Rattle.std.proofs.Common.{ℕ, ◌≤◌, refl, lit≤}
 use Rattle.laws.specs.Eight.{m8}
 use Rattle.laws.proofs.Remainders.{each_row}
 use Rattle.transform8.proofs.quantiser.multipliers.Goals as goal

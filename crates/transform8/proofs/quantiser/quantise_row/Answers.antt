@@ -1,4 +1,4 @@
-use Rattle.std.proofs.Common.{◌≡◌, ℤ, ap, ◌∙◌, w16, w32, rules}
+use Rattle.std.proofs.Common.{ap, ◌∙◌, w16, w32, rules}
 use Rattle.std.proofs.lemmas.Int.{to_z-of_z}
 use Rattle.laws.specs.Blocks.{at}
 use Rattle.laws.specs.Quantiser.{quantised}
