@@ -2,8 +2,8 @@
 ghost use Rattle.std.specs.Prelude.{◌≡◌, ◌≤◌};
 ghost use Rattle.laws.specs.Transform.{reconstructed};
 ghost use Rattle.laws.specs.Four.{four};
-ghost use Rattle.block_kinds.specs.Transformed.{p4};
-ghost use Rattle.std.proofs.Common.{rules};
+ghost use Rattle.laws.specs.Transformed.{p4};
+ghost use Rattle.laws.proofs.TileFacts.{p4_facts};
 
 use crate::block::{read, write};
 use kinds::{Kind, Sort, WidthFault};
@@ -15,7 +15,7 @@ pub struct P4;
 impl Kind for P4 {
     ghost meaning = { λ _. p4 };
 
-    ghost facts = { Prim.search rules };
+    ghost facts = { λ _. p4_facts };
 
     fn edge(&self) -> usize {
         4

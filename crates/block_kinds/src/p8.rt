@@ -2,8 +2,8 @@
 ghost use Rattle.std.specs.Prelude.{◌≡◌, ◌≤◌};
 ghost use Rattle.laws.specs.Transform.{reconstructed};
 ghost use Rattle.laws.specs.Eight.{eight};
-ghost use Rattle.block_kinds.specs.Transformed.{p8};
-ghost use Rattle.std.proofs.Common.{rules};
+ghost use Rattle.laws.specs.Transformed.{p8};
+ghost use Rattle.laws.proofs.TileFacts.{p8_facts};
 
 use crate::block::{read, write};
 use kinds::{Kind, Sort, WidthFault};
@@ -15,7 +15,7 @@ pub struct P8;
 impl Kind for P8 {
     ghost meaning = { λ _. p8 };
 
-    ghost facts = { Prim.search rules };
+    ghost facts = { λ _. p8_facts };
 
     fn edge(&self) -> usize {
         8

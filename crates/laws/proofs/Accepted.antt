@@ -7,7 +7,7 @@ use Rattle.laws.specs.Transform.{Transform, class_at, rescaled, rescaled_block, 
 use Rattle.laws.proofs.Lists.{at_from, row_from, cells_block, from_same, block_same}
 use Rattle.laws.proofs.Inverts.{untested}
 
-some_same : {A : Type 0} {a b : A} → Some a ≡ Some b → a ≡ b
+pub some_same : {A : Type 0} {a b : A} → Some a ≡ Some b → a ≡ b
 some_same {A} {a} {b} e = cc
 
 none_some : {A X : Type 0} {a : A} → None ≡ Some a → X

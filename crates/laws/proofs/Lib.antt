@@ -12,3 +12,6 @@ pub mod Distance
 pub mod Four
 pub mod Eight
 pub mod Recommended
+pub mod Places
+pub mod TileSteps
+pub mod TileFacts

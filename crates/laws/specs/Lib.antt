@@ -4,3 +4,4 @@ pub mod Quantiser
 pub mod Transform
 pub mod Four
 pub mod Eight
+pub mod Transformed

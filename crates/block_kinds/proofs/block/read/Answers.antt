@@ -1,4 +1,4 @@
-use Rattle.std.proofs.Common.{ℕ, [], arith}
+use Rattle.std.proofs.Common.{[], arith}
 use lib.ListN.{length-replicate}
 use Rattle.laws.specs.Blocks.{from, tile}
 use Rattle.laws.proofs.Lists.{from_is}

@@ -1,9 +1,9 @@
-use Rattle.std.proofs.Common.{◌≡◌, ℕ, ◌<◌, ◌≢◌, length, pos, ◌∙◌, arith, length-set, get_or-set_other, get_or-set_same, w16, rules, below_more}
+use Rattle.std.proofs.Common.{◌<◌, ◌≢◌, length, pos, ◌∙◌, arith, length-set, get_or-set_other, get_or-set_same, w16, rules, below_more}
 use lib.ListN.{length-replicate}
 use Rattle.std.proofs.lemmas.Int.{to_z-of_z}
 use Rattle.laws.specs.Blocks.{tile}
 use Rattle.laws.proofs.Lists.{from_is}
-use Rattle.block_kinds.proofs.Places.{place_below}
+use Rattle.laws.proofs.Places.{place_below}
 use Rattle.block_kinds.proofs.block.read_row.Goals as goal
 
 pub loop-j-init : goal.loop-j-init

@@ -1,7 +1,7 @@
-use Rattle.std.proofs.Common.{◌≡◌, ℕ, ◌+◌, ◌*◌, ◌/◌, ◌%◌, ◌<◌, pos, sym, ap, ◌∙◌, arith, below_more}
+use Rattle.std.proofs.Common.{◌+◌, ◌*◌, ◌/◌, ◌%◌, pos, sym, ap, ◌∙◌, arith, below_more}
 use Rattle.laws.specs.Blocks.{at, cells}
 use Rattle.laws.proofs.Lists.{from_is}
-use Rattle.block_kinds.proofs.Places.{row_end, some_row, place_is, place_row, place_column}
+use Rattle.laws.proofs.Places.{row_end, some_row, place_is, place_row, place_column}
 use Rattle.block_kinds.proofs.block.write.Goals as goal
 
 pub loop-i-preserved : goal.loop-i-preserved

@@ -1,6 +1,6 @@
-use Rattle.std.proofs.Common.{◌≡◌, ℕ, ◌+◌, ◌*◌, ◌<◌, ◌≢◌, length, pos, ◌∙◌, arith, get_or-set_other, get_or-set_same, w16, rules, below_more}
+use Rattle.std.proofs.Common.{◌+◌, ◌*◌, ◌<◌, ◌≢◌, length, pos, ◌∙◌, arith, get_or-set_other, get_or-set_same, w16, rules, below_more}
 use Rattle.std.proofs.lemmas.Int.{to_z-of_z}
-use Rattle.block_kinds.proofs.Places.{place_below}
+use Rattle.laws.proofs.Places.{place_below}
 use Rattle.block_kinds.proofs.block.write_row.Goals as goal
 
 pub bounds-tile-i : goal.bounds-tile-i
