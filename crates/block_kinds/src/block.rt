@@ -1,5 +1,5 @@
 // A tile in memory, row by row, as a block of N rows by value, and back.
-ghost use Rattle.std.specs.Prelude.{◌≡◌, ℕ, ◌+◌, ◌*◌, ◌<◌, ◌≤◌, ◌⊎◌, length};
+ghost use Rattle.std.specs.Prelude.{◌≡◌, ℕ, ◌+◌, ◌*◌, ◌<◌, ◌≤◌, length};
 ghost use Rattle.laws.specs.Blocks.{at, from, cells, row as row_of, block, tile as tile_of, row_by_row};
 
 pub fn read<const N: usize>(tile: &[i16]) -> [[i16; N]; N]

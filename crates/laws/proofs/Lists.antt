@@ -28,6 +28,10 @@ every_at test n t i h = let e : i + 0 ≡ i = omega arith in subst (λ k. T (tes
         let e : i + suc s ≡ suc i + s = omega arith in
         subst (λ k. T (test k)) e (go (suc s) n (and_out (test s) (every test (suc s) n) t).1 i (omega arith))
 
+pub length_from : {A : Type 0} (f : ℕ → A) (i n : ℕ) → length (from f i n) ≡ n
+length_from f i zero = refl
+length_from f i (suc n) = ap suc (length_from f (suc i) n)
+
 get_or_from : {A : Type 0} (f : ℕ → A) (a : A) (i n t : ℕ) → t < n → get_or (from f i n) t a ≡ f (t + i)
 get_or_from f a i zero t h = absurd (omega arith)
 get_or_from f a i (suc n) zero h = ap f (omega arith)

@@ -1,11 +1,11 @@
--- Places of a tile of n by n that runs row by row: n i + j for row i and column j. What stands there.
+-- Places of a tile of n by n that runs row by row, n i + j for row i and column j, and the numbers at them.
 use Rattle.std.proofs.Common.{◌≡◌, ℕ, zero, suc, ◌+◌, ◌*◌, ◌/◌, ◌%◌, ◌<◌, ◌≤◌, List, length, ℤ, pos, negsuc, ◌≤ℤ◌, nat_abs, ap, ◌∙◌, div-lt_iff_lt-mul, mul-le-mul_left, arith}
-use native.Mathlib.Nat.{div-add-mod}
+use Rattle.std.proofs.Math.Nat.{div-add-mod}
 use Rattle.std.proofs.lemmas.Int.{ints}
+use Rattle.std.proofs.lemmas.Nat.{mod_below, div-mul-add, mod-mul-add}
 use Rattle.kinds.specs.Meaning.{Differences}
 use Rattle.laws.specs.Blocks.{Grid, tile, row_by_row}
 use Rattle.laws.proofs.Lists.{at_from}
-use Rattle.std.proofs.lemmas.Nat.{mod_below, div-mul-add, mod-mul-add}
 
 -- a row ends before the next begins
 pub row_end : (n i k : ℕ) → i < k → n * i + n ≤ n * k
@@ -43,6 +43,7 @@ tile_row_by_row n g i j hi hj =
     ∙ ap (λ k. g k ((n * i + j) % n)) (row_of_place n i j hj)
     ∙ ap (g i) (column_of_place n i j hj)
 
+-- a difference of two bytes
 sized : (z : ℤ) → (negsuc 254 ≤ℤ z) × (z ≤ℤ pos 255) → nat_abs z ≤ 255
 sized z h = omega (arith, ints, h.0, h.1)
 

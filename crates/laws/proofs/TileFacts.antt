@@ -1,22 +1,19 @@
 -- The facts of a kind whose tile is one block of a transform, from the error limit of the transform.
-use Rattle.std.proofs.Common.{◌≡◌, ℕ, zero, suc, ◌*◌, ◌/◌, ◌%◌, ◌<◌, ◌≤◌, List, length, ℤ, ◌-ℤ◌, nat_abs, Some, sym, refl, ap, ◌∙◌, subst₂, inl, inr, arith, lit≤}
+use Rattle.std.proofs.Common.{◌≡◌, ℕ, ◌*◌, ◌/◌, ◌%◌, ◌<◌, ◌≤◌, List, length, ℤ, ◌-ℤ◌, nat_abs, Some, sym, refl, ap, ◌∙◌, subst₂, inl, inr, arith, lit≤}
 use Rattle.std.proofs.lemmas.Int.{ints}
 use Rattle.kinds.specs.declared.kind.Sort.{Sort}
 use Rattle.kinds.specs.Meaning.{Facts, Differences, Near}
-use Rattle.laws.specs.Blocks.{Grid, at, cells, from, block, tile, row_by_row}
+use Rattle.laws.specs.Blocks.{Grid, at, cells, block, tile, row_by_row}
 use Rattle.laws.specs.Transform.{Transform, coefficients, levels, reconstructed}
 use Rattle.laws.specs.Four.{four, distance4}
 use Rattle.laws.specs.Eight.{eight, distance8}
+use Rattle.laws.specs.Transformed.{tile_levels, tile_residual, p4, p8}
 use Rattle.laws.proofs.Accepted.{then_out, some_same}
-use Rattle.laws.proofs.Lists.{at_from, block_same}
+use Rattle.laws.proofs.Lists.{length_from, at_from, block_same}
 use Rattle.laws.proofs.Four.{near4}
 use Rattle.laws.proofs.Eight.{near8}
-use Rattle.laws.specs.Transformed.{tile_levels, tile_residual, p4, p8}
 use Rattle.laws.proofs.Places.{some_row, place_is, place_row, place_column, tile_row_by_row, tile_small}
-
-length_from : {A : Type 0} (f : ℕ → A) (i n : ℕ) → length (from f i n) ≡ n
-length_from f i zero = refl
-length_from f i (suc n) = ap suc (length_from f (suc i) n)
+use Rattle.laws.proofs.TileSteps.{residual_is}
 
 close : (a b : ℤ) (d : ℕ) → nat_abs (a -ℤ b) ≤ d → Near a b d
 close a b d h = (omega (arith, ints), omega (arith, ints))
@@ -37,17 +34,18 @@ module _ (T : Transform) (distance : ℕ → Sort → ℕ)
       → qp ≤ 51 → length residual ≡ n * n → Differences residual
       → tile_residual T qp (tile_levels T qp sort residual) ≡ Some rebuilt
       → (k : ℕ) → k < n * n → Near (at rebuilt k) (at residual k) (distance qp sort)
-  unfolding tile_levels tile_residual
+  unfolding tile_levels
   tile_near qp sort residual rebuilt low long small e k h =
       let x = tile n residual in
       let coded = levels T qp sort (coefficients T x) in
-      let same : block n (tile n (row_by_row n coded)) ≡ block n coded = block_same n _ coded (tile_row_by_row n coded) in
-      let out = then_out (reconstructed T qp (block n (tile n (row_by_row n coded)))) (λ r. Some (row_by_row n (cells r))) e in
+      let o = reconstructed T qp (block n coded) in
+      let read : block n coded ≡ block n (tile n (row_by_row n coded)) = sym (block_same n _ coded (tile_row_by_row n coded)) in
+      let out = then_out o (λ r. Some (row_by_row n (cells r))) (sym (residual_is T qp (row_by_row n coded) read o refl) ∙ e) in
       let r = out.0 in
       let some = some_row n k h in
       let hi = place_row n k some h in
       let hj = place_column n k some in
-      let limit = near qp sort x r low (tile_small n residual long small) (ap (reconstructed T qp) (sym same) ∙ out.1) (k / n) (k % n) hi hj in
+      let limit = near qp sort x r low (tile_small n residual long small) out.1 (k / n) (k % n) hi hj in
       let rebuilt_is : at rebuilt k ≡ cells r (k / n) (k % n) = ap (λ l. at l k) (sym (some_same out.2)) ∙ at_from (λ t. cells r (t / n) (t % n)) (n * n) k h in
       let coded_is : at residual k ≡ x (k / n) (k % n) = ap (at residual) (sym (place_is n k)) in
       close _ _ _ (subst₂ (λ a b. nat_abs (a -ℤ b) ≤ distance qp sort) (sym rebuilt_is) (sym coded_is) limit)
