@@ -5,6 +5,7 @@ ghost use Rattle.kinds.specs.Exact.{exact, narrow as is_narrow, all_narrow};
 ghost use Rattle.std.proofs.Common.{rules};
 
 use crate::kind::{Kind, Sort, WidthFault};
+use crate::qp::Qp;
 
 #[derive(Clone, Copy)]
 pub struct Exact;
@@ -24,7 +25,7 @@ impl Kind for Exact {
 
     fn levels(
         &self,
-        _qp: u8,
+        _qp: Qp,
         _sort: Sort,
         residual: &[i16],
         levels: &mut [i16],
@@ -37,7 +38,7 @@ impl Kind for Exact {
 
     fn reconstruct(
         &self,
-        _qp: u8,
+        _qp: Qp,
         levels: &[i16],
         reconstruction: &mut [i16],
     ) -> Result<(), WidthFault> {
@@ -48,7 +49,7 @@ impl Kind for Exact {
         Ok(())
     }
 
-    fn distance(&self, _qp: u8, _sort: Sort) -> u32 {
+    fn distance(&self, _qp: Qp, _sort: Sort) -> u32 {
         0
     }
 }

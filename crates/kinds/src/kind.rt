@@ -1,9 +1,11 @@
 // What a kind of tile coding is. Its meaning is one value, given by `meaning`; every method equals it.
 // `facts` is what each kind shows of its meaning: all that the layers above rest on.
-// A kind may presume its `requires`: QP up to 51, a residual in -255..255, memory for edge x edge.
-ghost use Rattle.std.specs.Prelude.{◌≡◌, ◌≤◌, length, is_some, is_ok, if◌then◌else◌};
+// A kind may presume its `requires`: a residual in -255..255, memory for edge x edge.
+ghost use Rattle.std.specs.Prelude.{◌≡◌, length, is_some, is_ok, if◌then◌else◌};
 ghost use Rattle.std.specs.Option.{unwrap_or};
 ghost use Rattle.kinds.specs.Meaning.{Meaning, Facts, Differences, area, round_trip};
+
+use crate::qp::Qp;
 
 // What the prediction of a tile was made from: samples around it, or the picture before it.
 #[derive(Clone, Copy)]
@@ -31,13 +33,12 @@ pub trait Kind {
     // It refuses just where that reconstruction is refused, and then leaves both as they were.
     fn levels(
         &self,
-        qp: u8,
+        qp: Qp,
         sort: Sort,
         residual: &[i16],
         levels: &mut [i16],
         reconstruction: &mut [i16],
     ) -> Result<(), WidthFault>
-        requires quantiser { qp ≤ 51 }
         requires differences { Differences residual.now }
         requires residual { length residual.now ≡ area (meaning self.now) }
         requires levels { length levels.old ≡ area (meaning self.now) }
@@ -49,19 +50,17 @@ pub trait Kind {
     // Fills `reconstruction` with the residual that levels stand for, or refuses and leaves it as it was.
     fn reconstruct(
         &self,
-        qp: u8,
+        qp: Qp,
         levels: &[i16],
         reconstruction: &mut [i16],
     ) -> Result<(), WidthFault>
-        requires quantiser { qp ≤ 51 }
         requires levels { length levels.now ≡ area (meaning self.now) }
         requires reconstruction { length reconstruction.old ≡ area (meaning self.now) }
         ensures answer { is_ok result ≡ is_some ((meaning self.now).reconstruction qp levels.now) }
         ensures reconstruction { reconstruction.new ≡ unwrap_or ((meaning self.now).reconstruction qp levels.now) reconstruction.old };
 
     // How far a sample of a reconstruction may lie from the residual that was coded.
-    fn distance(&self, qp: u8, sort: Sort) -> u32
-        requires quantiser { qp ≤ 51 }
+    fn distance(&self, qp: Qp, sort: Sort) -> u32
         ensures { result ≡ (meaning self.now).distance qp sort };
 
     ghost facts: { (k : Self) → Facts (meaning k) };
