@@ -1,4 +1,3 @@
-pub mod Calls
 pub mod Limit
 pub mod Passed
 pub mod Rows

@@ -5,9 +5,9 @@ use Rattle.std.proofs.lemmas.Nat.{mul-add-lt}
 use Rattle.std.proofs.lemmas.Bool.{and_parts, leb-true, ltb-true, cond-true, cond-false}
 use Rattle.kinds.specs.Meaning.{Meaning, Facts, Near}
 use Rattle.ends.specs.declared.coding.Coding.{Coding}
-use Rattle.ends.specs.declared.coder.Task.{Task}
+use Rattle.ends.specs.Tasks.{Task}
 use Rattle.ends.specs.declared.plane.Size.{Size}
-use Rattle.ends.specs.declared.tile.Tile.{Tile}
+use Rattle.ends.specs.Tasks.{Tile}
 use Rattle.ends.specs.Planes.{bytes, sample}
 use Rattle.ends.specs.Tiles.{sort_of, prediction, residual, reconstructed, covers, offset, code_levels, stored}
 use Rattle.ends.specs.Calls.{task_of}

@@ -7,11 +7,9 @@ use Rattle.std.proofs.lemmas.List.{ext_get_or, get_or_append_left, get_or-append
 use Rattle.std.proofs.lemmas.Nat.{mul-le, mul-add-lt, div-mul-add, mod-mul-add, div-add-mod', div_below, mod_below}
 use Rattle.std.proofs.lemmas.Bool.{cases_eq, cases_lt, cases_order, and_from, and_left, and_right, and_parts, eq-eqb, ne_eqb, le-leb, lt-leb, lt-ltb, le-ltb, leb-true, ltb-true, cond-true, cond-false}
 use Rattle.ends.specs.declared.plane.Size.{Size}
-use Rattle.ends.specs.declared.tile.Tile.{Tile}
-use Rattle.ends.specs.Planes.{sample}
-use Rattle.ends.specs.declared.prediction.Mode.{Mode}
-use Rattle.ends.specs.Tiles.{predicted, prediction, covers, offset, with_tile}
-use Rattle.ends.specs.Inner.{Within, on_row}
+use Rattle.ends.specs.Tasks.{Tile}
+use Rattle.ends.specs.Planes.{bytes, sample}
+use Rattle.ends.specs.Tiles.{covers, offset, with_tile}
 
 -- ---- parts of a list
 
@@ -19,7 +17,17 @@ use Rattle.ends.specs.Inner.{Within, on_row}
 pub row_end : (i n h : ℕ) → i < h → i * n + n ≤ n * h
 row_end i n h l = omega (arith, mul-le (i + 1) n h n (omega arith) (omega arith))
 
-pub within_end : (s : Size) (bytes x y count : ℕ) → Within s bytes x y count → y * s.width + x + count ≤ bytes
+-- count samples from (x, y) on, to the right, lie in a plane that is so long
+pub record Within (s : Size) (long x y count : ℕ) : Type 0 where
+  pub size : long ≡ bytes s
+  pub right : x + count ≤ s.width
+  pub bottom : y < s.height
+
+-- a column and a row are among count places from (x, y) on, to the right
+abbrev pub on_row : (x y count : ℕ) → (col row : ℕ) → Bool
+on_row x y count col row = eqb row y && (leb x col && ltb col (x + count))
+
+within_end : (s : Size) (bytes x y count : ℕ) → Within s bytes x y count → y * s.width + x + count ≤ bytes
 within_end s bytes x y count w = let a = w.size in let b = w.right in omega (arith, row_end y s.width s.height w.bottom)
 
 -- a list with ys written from a on
@@ -55,15 +63,9 @@ module _ (f : ℕ → ℕ → ℕ) (n : ℕ) where
       (λ (l : i ≤ r). subst (λ (q : ℕ). get_or new (q * n + j) 0 ≡ f j q) (let e : i ≡ r = omega arith in e) (here j hj))
       (cases_lt r i)
 
-  rows_all : (tile : List ℕ) → 0 < n → length tile ≡ n * n → Rows f n tile n → tile ≡ map (λ k. f (k % n) (k / n)) (range_with_len 0 (n * n))
+  pub rows_all : (tile : List ℕ) → 0 < n → length tile ≡ n * n → Rows f n tile n → tile ≡ map (λ k. f (k % n) (k / n)) (range_with_len 0 (n * n))
   rows_all tile some long rows = fill_by_all _ tile (n * n) 0 long (λ k h.
       ap (λ (q : ℕ). get_or tile q 0) (sym (div-add-mod' k n)) ∙ rows (k / n) (k % n) (div_below k n n some h) (mod_below k n some))
-
--- samples whose rows are all predicted are the prediction
-pub all_predicted : (mode : Mode) (t : Tile) (plane samples : List ℕ) (i : ℕ) → 0 < t.edge → length samples ≡ t.edge * t.edge → i ≡ t.edge
-    → Rows (predicted mode t plane) t.edge samples i → samples ≡ prediction mode t plane
-unfolding prediction
-all_predicted mode t plane samples i some long all rows = rows_all (predicted mode t plane) t.edge samples some long (subst (Rows (predicted mode t plane) t.edge samples) all rows)
 
 -- ---- a plane, written row by row
 

@@ -7,7 +7,7 @@ use Rattle.std.proofs.lemmas.Bool.{cases_eq, cases_lt, cases_order, not_from_tru
 use Rattle.kinds.specs.Meaning.{Meaning, Facts}
 use Rattle.ends.specs.declared.coding.Coding.{Coding}
 use Rattle.ends.specs.declared.coding.Heading.{Heading}
-use Rattle.ends.specs.declared.coder.Task.{Task}
+use Rattle.ends.specs.Tasks.{Task}
 use Rattle.ends.specs.declared.plane.Size.{Size}
 use Rattle.ends.specs.declared.refusal.Refusal.{Refusal}
 use Rattle.ends.specs.declared.refusal.Refusal.TheVariants.{Width}

@@ -8,9 +8,9 @@ use Rattle.std.proofs.lemmas.Int.{ints}
 use Rattle.std.proofs.lemmas.List.Sums.{sum_by-cons}
 use Rattle.std.proofs.lemmas.Bool.{cases_lt}
 use Rattle.kinds.specs.Meaning.{Near, Differences}
-use Rattle.ends.specs.declared.tile.Tile.{Tile}
-use Rattle.ends.specs.declared.prediction.Mode.{Mode}
-use Rattle.ends.specs.declared.prediction.Mode.TheVariants.{Colocated, Vertical, Horizontal, Mean}
+use Rattle.ends.specs.Tasks.{Tile}
+use Rattle.ends.specs.declared.mode.Mode.{Mode}
+use Rattle.ends.specs.declared.mode.Mode.TheVariants.{Colocated, Vertical, Horizontal, Mean}
 use Rattle.ends.specs.Planes.{sample, blank, row_sum, column_sum}
 use Rattle.ends.specs.Tiles.{prediction, predicted, mean, above, left, residual, clip, reconstructed, covers, with_tile}
 

@@ -2,7 +2,7 @@
 use Rattle.std.specs.Prelude.{ℕ, ◌+◌, List, ℤ, Some, None, Ok, Err, Option, Result}
 use Rattle.kinds.specs.Meaning.{Meaning}
 use Rattle.ends.specs.declared.camera.Camera.{Camera}
-use Rattle.ends.specs.declared.coder.Task.{Task}
+use Rattle.ends.specs.Tasks.{Task}
 use Rattle.ends.specs.declared.coding.Coding.{Coding}
 use Rattle.ends.specs.declared.coding.Heading.{Heading}
 use Rattle.ends.specs.declared.end.End.{End}

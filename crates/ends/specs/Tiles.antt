@@ -4,10 +4,9 @@ use Rattle.std.specs.List.{range_with_len}
 use Rattle.kinds.specs.Meaning.{Meaning}
 use Rattle.kinds.specs.declared.kind.Sort.{Sort}
 use Rattle.kinds.specs.declared.kind.Sort.TheVariants.{Intra, Inter}
-use Rattle.ends.specs.declared.coder.Task.{Task}
-use Rattle.ends.specs.declared.prediction.Mode.{Mode}
-use Rattle.ends.specs.declared.prediction.Mode.TheVariants.{Colocated, Vertical, Horizontal, Mean}
-use Rattle.ends.specs.declared.tile.Tile.{Tile}
+use Rattle.ends.specs.declared.mode.Mode.{Mode}
+use Rattle.ends.specs.declared.mode.Mode.TheVariants.{Colocated, Vertical, Horizontal, Mean}
+use Rattle.ends.specs.Tasks.{Tile, Task}
 use Rattle.ends.specs.Planes.{sample, column, row, row_sum, column_sum}
 
 -- ---- prediction

@@ -23,10 +23,9 @@ impl Camera {
         ensures plane { plane.new ≡ (open_call size first plane.old).plane }
         ensures law { RunLaw size first }
     {
-        match end::open(size, first, plane) {
-            Ok(end) => Ok(Camera { end }),
-            Err(refusal) => Err(refusal),
-        }
+        Ok(Camera {
+            end: end::open(size, first, plane)?,
+        })
     }
 
     // The number of the next unit or restart.
@@ -37,6 +36,7 @@ impl Camera {
     }
 
     // Codes a tile: its levels fill the memory, its reconstruction is stored in the plane, and the count goes up by one.
+    #[tactic(auto, unfolding(crate::specs::Calls::coded))]
     pub fn code<K: Kind>(
         &mut self,
         kind: &K,
@@ -47,13 +47,8 @@ impl Camera {
     ) -> Result<Heading, Refusal>
         ensures { code_call (K.meaning kind.now) self.old.end plane.old coding source.now levels.old ≡ record { answer = result; end = self.new.end; plane = plane.new; levels = levels.new } }
     {
-        if let Some(refusal) = rules::refuse_code(kind, &self.end, plane, coding, source, levels) {
-            return Err(refusal);
-        }
-        let task = coder::task_of(kind, &self.end, coding);
-        let Ok(()) = coder::code_tile(kind, plane, task, source, levels) else {
-            return Err(Refusal::Width);
-        };
+        let task = rules::check_code(kind, &self.end, plane, coding, source, levels)?;
+        coder::code_tile(kind, plane, task, source, levels)?;
         Ok(Heading {
             number: self.end.advance(),
             tag: kind.tag(),
@@ -62,12 +57,11 @@ impl Camera {
     }
 
     // Makes the plane blank, so that a handset can begin anew from here.
+    #[tactic(auto, unfolding(crate::specs::Calls::restarted))]
     pub fn restart(&mut self, plane: &mut [u8]) -> Result<Heading, Refusal>
         ensures { restart_call self.old.end plane.old ≡ record { answer = result; end = self.new.end; plane = plane.new } }
     {
-        if let Some(refusal) = rules::refuse_restart(&self.end, plane) {
-            return Err(refusal);
-        }
+        rules::check_restart(&self.end, plane)?;
         plane::clear(plane);
         Ok(Heading::restart(self.end.advance()))
     }

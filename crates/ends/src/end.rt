@@ -36,12 +36,11 @@ impl End {
 }
 
 // An end of the given size and first count, its plane made blank.
+#[tactic(auto, unfolding(crate::specs::Calls::opened))]
 pub fn open(size: Size, first: u32, plane: &mut [u8]) -> Result<End, Refusal>
     ensures { open_call size first plane.old ≡ record { answer = result; plane = plane.new } }
 {
-    if let Some(refusal) = rules::refuse_open(size, plane) {
-        return Err(refusal);
-    }
+    rules::check_open(size, plane)?;
     plane::clear(plane);
     Ok(End { size, count: first })
 }

@@ -23,10 +23,9 @@ impl Handset {
         ensures plane { plane.new ≡ (open_call size first plane.old).plane }
         ensures law { RunLaw size first }
     {
-        match end::open(size, first, plane) {
-            Ok(end) => Ok(Handset { end }),
-            Err(refusal) => Err(refusal),
-        }
+        Ok(Handset {
+            end: end::open(size, first, plane)?,
+        })
     }
 
     // The number of the unit that would be taken next.
@@ -37,6 +36,7 @@ impl Handset {
     }
 
     // Takes the unit whose number is the count: stores the reconstruction of its levels, and raises the count by one.
+    #[tactic(auto, unfolding(crate::specs::Calls::followed))]
     pub fn follow<K: Kind>(
         &mut self,
         kind: &K,
@@ -46,24 +46,18 @@ impl Handset {
     ) -> Result<(), Refusal>
         ensures { follow_call (K.meaning kind.now) self.old.end plane.old heading levels.now ≡ record { answer = result; end = self.new.end; plane = plane.new } }
     {
-        if let Some(refusal) = rules::refuse_follow(kind, &self.end, plane, heading, levels) {
-            return Err(refusal);
-        }
-        let task = coder::task_of(kind, &self.end, heading.coding);
-        let Ok(()) = coder::follow_tile(kind, plane, task, levels) else {
-            return Err(Refusal::Width);
-        };
+        let task = rules::check_follow(kind, &self.end, plane, heading, levels)?;
+        coder::follow_tile(kind, plane, task, levels)?;
         self.end.advance();
         Ok(())
     }
 
     // Takes a restart whose number is the count or above: makes the plane blank, and counts on from there.
+    #[tactic(auto, unfolding(crate::specs::Calls::resumed))]
     pub fn resume(&mut self, plane: &mut [u8], heading: Heading) -> Result<(), Refusal>
         ensures { resume_call self.old.end plane.old heading ≡ record { answer = result; end = self.new.end; plane = plane.new } }
     {
-        if let Some(refusal) = rules::refuse_resume(&self.end, plane, heading) {
-            return Err(refusal);
-        }
+        rules::check_resume(&self.end, plane, heading)?;
         plane::clear(plane);
         self.end.advance_past(heading.number);
         Ok(())

@@ -8,11 +8,15 @@ mod coder;
 mod coding;
 mod end;
 mod handset;
+mod mode;
 mod plane;
 mod prediction;
 mod refusal;
+mod residual;
 mod rules;
+mod task;
 mod tile;
+mod window;
 
 pub use camera::Camera;
 pub use coding::{Coding, Heading};

@@ -1,6 +1,12 @@
 // Why a call was refused. The numbers are part of the product, and are tested in this order.
-ghost use Rattle.std.specs.Prelude.{◌≡◌};
+ghost use Rattle.std.specs.Prelude.{◌≡◌, Some};
+ghost use Rattle.ends.specs.declared.refusal.Refusal.TheVariants.{Qp as qp, Mode as mode, Width as width};
 ghost use Rattle.ends.specs.Refusals.{number_of};
+ghost use Rattle.ends.specs.Words.{word_of};
+
+use crate::mode::ModeFault;
+use kinds::{QpFault, WidthFault};
+use std::fmt;
 
 #[derive(Clone, Copy)]
 pub enum Refusal {
@@ -35,5 +41,52 @@ impl Refusal {
         ensures { result ≡ number_of self }
     {
         self as u8
+    }
+}
+
+// The reason, in one word.
+impl fmt::Display for Refusal {
+    ghost output = { λ refusal. Some (word_of refusal) };
+
+    fn fmt<W: fmt::Write>(&self, f: &mut fmt::Formatter<W>) -> fmt::Result {
+        let word = match self {
+            Refusal::Size => "size",
+            Refusal::Plane => "plane",
+            Refusal::Count => "count",
+            Refusal::Tag => "tag",
+            Refusal::Late => "late",
+            Refusal::Early => "early",
+            Refusal::Qp => "qp",
+            Refusal::Mode => "mode",
+            Refusal::Place => "place",
+            Refusal::Length => "length",
+            Refusal::Border => "border",
+            Refusal::Width => "width",
+        };
+        f.write_str(word)
+    }
+}
+
+impl From<QpFault> for Refusal {
+    ghost from_gives = { λ _ refusal. refusal ≡ qp };
+
+    fn from(_fault: QpFault) -> Self {
+        Self::Qp
+    }
+}
+
+impl From<ModeFault> for Refusal {
+    ghost from_gives = { λ _ refusal. refusal ≡ mode };
+
+    fn from(_fault: ModeFault) -> Self {
+        Self::Mode
+    }
+}
+
+impl From<WidthFault> for Refusal {
+    ghost from_gives = { λ _ refusal. refusal ≡ width };
+
+    fn from(_fault: WidthFault) -> Self {
+        Self::Width
     }
 }

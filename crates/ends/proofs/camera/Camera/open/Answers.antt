@@ -1,14 +1,8 @@
-use Rattle.std.proofs.Common.{sym, ap}
-use Rattle.ends.specs.Calls.{Opened, as_camera}
 use Rattle.ends.proofs.Run.{run_law}
 use Rattle.ends.proofs.camera.Camera.open.Goals as goal
 
-pub returns-in-Ok : goal.returns-in-Ok
-returns-in-Ok c =
-    let is = sym c.in-Ok.ensures in
-    record { answer = ap (λ (o : Opened). as_camera o.answer) is; plane = ap (λ (o : Opened). o.plane) is; law = run_law c.args.size c.args.first }
+pub returns-in_err-open-clause-law : goal.returns-in_err-open-clause-law
+returns-in_err-open-clause-law c = run_law c.args.size c.args.first
 
-pub returns-in-Err : goal.returns-in-Err
-returns-in-Err c =
-    let is = sym c.in-Err.ensures in
-    record { answer = ap (λ (o : Opened). as_camera o.answer) is; plane = ap (λ (o : Opened). o.plane) is; law = run_law c.args.size c.args.first }
+pub returns-clause-law : goal.returns-clause-law
+returns-clause-law c = run_law c.args.size c.args.first

@@ -1,7 +1,0 @@
-use Rattle.ends.specs.declared.prediction.Mode.TheVariants.{Vertical}
-use Rattle.ends.specs.Tiles.{predicted}
-use Rattle.ends.proofs.Rows.{Rows}
-use Rattle.ends.proofs.prediction.repeat_row.Given as goal
-
-abbrev pub invariant-loop-i : goal.invariant-loop-i
-invariant-loop-i l = Rows (predicted Vertical l.tile l.plane) l.tile.edge l.samples l.i

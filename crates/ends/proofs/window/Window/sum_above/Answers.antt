@@ -1,0 +1,16 @@
+use Rattle.std.proofs.Common.{ℕ, ◌+◌, ◌-◌, map, sum, ap, ◌∙◌}
+use Rattle.std.specs.List.{range_with_len}
+use Rattle.std.proofs.lemmas.List.FromFn.{fill_by_all}
+use Rattle.ends.specs.Tasks.{Tile}
+use Rattle.ends.specs.Planes.{sample, row_sum}
+use Rattle.ends.proofs.window.Window.sum_above.Goals as goal
+
+pub returns-clause-value : goal.returns-clause-value
+unfolding row_sum
+returns-clause-value c =
+    let w = c.args.self.now in
+    let t = c.tile.inside in
+    let along = λ (v : Tile) (j : ℕ). sample w.tile.size w.plane.now (v.x + j) (v.y - 1) in
+    c.sum.ensures.value
+    ∙ ap sum (fill_by_all (λ (j : ℕ). sample w.tile.size w.plane.now (t.x + j) (t.y - 1)) c.row.result.now w.tile.edge 0 c.row.ensures.long c.row.ensures.samples)
+    ∙ ap (λ (v : Tile). sum (map (along v) (range_with_len 0 w.tile.edge))) c.tile.view_is
