@@ -2,4 +2,4 @@ pub mod Limit
 pub mod Passed
 pub mod Rows
 pub mod Run
-pub mod Samples
+pub mod Elements

@@ -13,7 +13,7 @@ use Rattle.ends.specs.Tiles.{sort_of, prediction, residual, reconstructed, cover
 use Rattle.ends.specs.Calls.{task_of}
 use Rattle.ends.proofs.Passed.{edge_bounds}
 use Rattle.ends.proofs.Rows.{sample_with_tile}
-use Rattle.ends.proofs.Samples.{Bytes, length_prediction, length_residual, get_or_residual, get_or_reconstructed, bytes_prediction, differences_residual, clip_near}
+use Rattle.ends.proofs.Elements.{Bytes, length_prediction, length_residual, get_or_residual, get_or_reconstructed, bytes_prediction, differences_residual, clip_near}
 
 -- a sample, by what was last coded there
 abbrev pub Close : Size → List ℕ → (col row : ℕ) → Option (ℕ × ℕ) → Type 0

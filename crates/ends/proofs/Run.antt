@@ -19,7 +19,7 @@ use Rattle.ends.specs.Runs.{Call, code, restart, follow, resume, Pair, opened_al
 use Rattle.ends.proofs.Limit.{Close, code_close, residual_long}
 use Rattle.ends.proofs.Passed.{none_clear, clear_none, hit, edge_bounds}
 use Rattle.ends.proofs.Rows.{length_with_tile}
-use Rattle.ends.proofs.Samples.{Bytes, bytes_blank, bytes_prediction, bytes_reconstructed, bytes_with_tile, differences_residual}
+use Rattle.ends.proofs.Elements.{Bytes, bytes_blank, bytes_prediction, bytes_reconstructed, bytes_with_tile, differences_residual}
 
 -- ---- what code lets through, follow lets through at that count
 

@@ -5,9 +5,10 @@ ghost use Rattle.kinds.specs.Meaning.{area};
 ghost use Rattle.ends.specs.Planes.{bytes};
 ghost use Rattle.ends.specs.Tiles.{code_levels, stored};
 
+use crate::samples;
+use crate::samples::Samples;
 use crate::task::Task;
 use crate::window::Window;
-use crate::{prediction, residual};
 use kinds::{Kind, WidthFault};
 
 // The samples of the largest tile.
@@ -34,18 +35,20 @@ pub fn code_tile<K: Kind>(
     let mut sample_memory = [0; LARGEST];
     let mut residual_memory = [0; LARGEST];
     let mut reconstruction_memory = [0; LARGEST];
-    let samples = &mut sample_memory[..area];
-    let difference = &mut residual_memory[..area];
+    let residual = &mut residual_memory[..area];
     let reconstruction = &mut reconstruction_memory[..area];
+    let mut samples = Samples {
+        values: &mut sample_memory[..area],
+        edge: tile.edge,
+    };
     let mut window = Window { plane, tile };
-    prediction::predict(&window, mode, samples);
-    residual::subtract(source, samples, difference);
+    window.predict(mode, &mut samples);
+    samples::subtract(source, samples.as_slice(), residual);
     // The answer is taken apart here: a refusal leaves before anything is stored.
-    let Ok(()) = kind.levels(qp, mode.sort(), difference, levels, reconstruction) else {
+    let Ok(()) = kind.levels(qp, mode.sort(), residual, levels, reconstruction) else {
         return Err(WidthFault);
     };
-    residual::add(samples, reconstruction);
-    window.store(samples);
+    window.reconstruct(&mut samples, reconstruction);
     Ok(())
 }
 
@@ -66,15 +69,17 @@ pub fn follow_tile<K: Kind>(
     let area = tile.area();
     let mut sample_memory = [0; LARGEST];
     let mut reconstruction_memory = [0; LARGEST];
-    let samples = &mut sample_memory[..area];
     let reconstruction = &mut reconstruction_memory[..area];
     // The answer is taken apart here: a refusal leaves before anything is stored.
     let Ok(()) = kind.reconstruct(qp, levels, reconstruction) else {
         return Err(WidthFault);
     };
+    let mut samples = Samples {
+        values: &mut sample_memory[..area],
+        edge: tile.edge,
+    };
     let mut window = Window { plane, tile };
-    prediction::predict(&window, mode, samples);
-    residual::add(samples, reconstruction);
-    window.store(samples);
+    window.predict(mode, &mut samples);
+    window.reconstruct(&mut samples, reconstruction);
     Ok(())
 }

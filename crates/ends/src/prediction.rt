@@ -1,57 +1,77 @@
 // The prediction of a tile from its plane, by one of four modes.
-ghost use Rattle.std.specs.Prelude.{◌≡◌, ℕ, ◌*◌, ◌/◌, ◌%◌, ◌<◌, length, map, slice_index};
-ghost use Rattle.std.specs.List.{range_with_len};
+ghost use Rattle.std.specs.Prelude.{◌≡◌, ◌*◌, ◌<◌, ◌≤◌, length, sum as list_sum};
 ghost use Rattle.ends.specs.Tasks.{Bordered};
-ghost use Rattle.ends.specs.Tiles.{mean as mean_of, prediction};
+ghost use Rattle.ends.specs.Tiles.{above, left, mean as mean_of, prediction};
 
 use crate::mode::Mode;
+use crate::samples::Samples;
 use crate::window::Window;
 
-pub fn predict(window: &Window, mode: Mode, samples: &mut [u8])
-    requires border { Bordered window.now.tile mode }
-    requires room { length samples.old ≡ window.now.tile.edge * window.now.tile.edge }
-    ensures { samples.new ≡ prediction mode window.now.tile window.now.plane.now }
-{
-    let tile = window.tile;
-    match mode {
-        Mode::Colocated => write_rows(samples, tile.edge, move |i, row| {
-            row.copy_from_slice(window.row(tile.x, tile.y + i))
-        }),
-        Mode::Vertical => write_rows(samples, tile.edge, move |_i, row| {
-            row.copy_from_slice(window.row(tile.x, tile.y - 1))
-        }),
-        Mode::Horizontal => write_rows(samples, tile.edge, move |i, row| {
-            row.fill(window.sample(tile.x - 1, tile.y + i))
-        }),
-        Mode::Mean => samples.fill(mean(window)),
+impl Window<'_> {
+    #[tactic(auto, unfolding(crate::specs::Tiles::prediction))]
+    pub fn predict(&self, mode: Mode, samples: &mut Samples)
+        requires border { Bordered self.now.tile mode }
+        requires edge { samples.old.edge ≡ self.now.tile.edge }
+        ensures values { samples.new.values.now ≡ prediction mode self.now.tile self.now.plane.now }
+        ensures edge { samples.new.edge ≡ samples.old.edge }
+    {
+        let tile = self.tile;
+        match mode {
+            Mode::Colocated => samples.write_rows(move |i, row| {
+                row.copy_from_slice(self.row(tile.x, tile.y + i))
+            }),
+            Mode::Vertical => samples.write_rows(move |_i, row| {
+                row.copy_from_slice(self.row(tile.x, tile.y - 1))
+            }),
+            Mode::Horizontal => samples.write_rows(move |i, row| {
+                row.fill(self.sample(tile.x - 1, tile.y + i))
+            }),
+            Mode::Mean => samples.values.fill(self.mean()),
+        }
+    }
+
+    // The mean of the samples above and left of the tile, as far as there are any.
+    fn mean(&self) -> u8
+        ensures { result ≡ mean_of self.now.tile self.now.plane.now }
+    {
+        let tile = self.tile;
+        let n = tile.edge;
+        let mean = match (tile.y > 0, tile.x > 0) {
+            (false, false) => 128,
+            (false, true) => (self.sum_left() + n / 2) / n,
+            (true, false) => (self.sum_above() + n / 2) / n,
+            (true, true) => (self.sum_above() + self.sum_left() + n) / (2 * n),
+        };
+        mean as u8
+    }
+
+    // The sum of the samples just above the tile.
+    fn sum_above(&self) -> usize
+        requires { 0 < self.now.tile.y }
+        ensures value { result ≡ above self.now.tile self.now.plane.now }
+        ensures bound { result ≤ 255 * self.now.tile.edge }
+    {
+        let tile = self.tile;
+        sum(self.row(tile.x, tile.y - 1))
+    }
+
+    // The sum of the samples just left of the tile.
+    fn sum_left(&self) -> usize
+        requires { 0 < self.now.tile.x }
+        ensures value { result ≡ left self.now.tile self.now.plane.now }
+        ensures bound { result ≤ 255 * self.now.tile.edge }
+    {
+        let tile = self.tile;
+        (0..tile.edge)
+            .map(move |i| usize::from(self.sample(tile.x - 1, tile.y + i)))
+            .sum()
     }
 }
 
-// Has each row of a tile of the given edge written, by its number.
-fn write_rows<F: Fn(usize, &mut [u8])>(samples: &mut [u8], edge: usize, write: F)
-    ghost value: { ℕ → ℕ → ℕ }
-    requires square { length samples.old ≡ edge * edge }
-    requires some { 0 < edge }
-    requires callable { (i : ℕ) (row : _) → i < edge → length row.now ≡ edge → F.pre write i row }
-    requires written { (i : ℕ) (row : _) (row' : _) → i < edge → length row.now ≡ edge → length row'.now ≡ edge → F.post write i row tt row' → (j : ℕ) → j < edge → slice_index row'.now j ≡ value j i }
-    ensures { samples.new ≡ map (λ k. value (k % edge) (k / edge)) (range_with_len 0 (edge * edge)) }
+fn sum(samples: &[u8]) -> usize
+    requires { length samples.now ≤ 16 }
+    ensures value { result ≡ list_sum samples.now }
+    ensures bound { result ≤ 255 * length samples.now }
 {
-    for i in 0..edge {
-        write(i, &mut samples[i * edge..i * edge + edge]);
-    }
-}
-
-// The mean of the samples above and left of the tile, as far as there are any.
-fn mean(window: &Window) -> u8
-    ensures { result ≡ mean_of window.now.tile window.now.plane.now }
-{
-    let tile = window.tile;
-    let n = tile.edge;
-    let mean = match (tile.y > 0, tile.x > 0) {
-        (false, false) => 128,
-        (false, true) => (window.sum_left() + n / 2) / n,
-        (true, false) => (window.sum_above() + n / 2) / n,
-        (true, true) => (window.sum_above() + window.sum_left() + n) / (2 * n),
-    };
-    mean as u8
+    samples.iter().map(|sample| usize::from(*sample)).sum()
 }

@@ -1,8 +1,9 @@
 // A tile in its plane, which is lent. Nothing else knows how the samples of a plane are laid out.
-ghost use Rattle.std.specs.Prelude.{◌≡◌, ℕ, ◌+◌, ◌*◌, ◌<◌, ◌≤◌, length, slice_index, sum as list_sum};
+ghost use Rattle.std.specs.Prelude.{◌≡◌, ℕ, ◌+◌, ◌*◌, ◌<◌, ◌≤◌, length, slice_index};
 ghost use Rattle.ends.specs.Planes.{bytes, sample};
-ghost use Rattle.ends.specs.Tiles.{above, left, with_tile};
+ghost use Rattle.ends.specs.Tiles.{with_tile, reconstructed};
 
+use crate::samples::Samples;
 use crate::tile::Tile;
 
 #[derive(Drop)]
@@ -34,49 +35,29 @@ impl Window<'_> {
         self.plane[y * usize::from(tile.size.width) + x]
     }
 
-    // The sum of the samples just above the tile.
-    pub fn sum_above(&self) -> usize
-        requires { 0 < self.now.tile.y }
-        ensures value { result ≡ above self.now.tile self.now.plane.now }
-        ensures bound { result ≤ 255 * self.now.tile.edge }
-    {
-        let tile = self.tile;
-        sum(self.row(tile.x, tile.y - 1))
-    }
-
-    // The sum of the samples just left of the tile.
-    pub fn sum_left(&self) -> usize
-        requires { 0 < self.now.tile.x }
-        ensures value { result ≡ left self.now.tile self.now.plane.now }
-        ensures bound { result ≤ 255 * self.now.tile.edge }
-    {
-        let tile = self.tile;
-        (0..tile.edge)
-            .map(move |i| usize::from(self.sample(tile.x - 1, tile.y + i)))
-            .sum()
-    }
-
-    // Stores samples as the tile's.
-    pub fn store(&mut self, samples: &[u8])
-        requires { length samples.now ≡ self.old.tile.edge * self.old.tile.edge }
+    // Stores the prediction with its reconstructed residual added.
+    pub fn reconstruct(&mut self, prediction: &mut Samples, residual: &[i16])
+        requires edge { prediction.old.edge ≡ self.old.tile.edge }
+        requires residual { length residual.now ≡ length prediction.old.values.now }
         ensures same_reference { self.new.plane.ghost_name ≡ self.old.plane.ghost_name }
-        ensures tile { self.new.tile ≡ self.old.tile }
-        ensures plane { self.new.plane.now ≡ with_tile self.old.tile samples.now self.old.plane.now }
+        ensures plane { self.new.plane.now ≡ with_tile self.old.tile (reconstructed prediction.old.values.now residual.now) self.old.plane.now }
+    {
+        prediction.add(residual);
+        self.store(prediction);
+    }
+
+    fn store(&mut self, samples: &Samples)
+        requires { samples.now.edge ≡ self.old.tile.edge }
+        ensures same_reference { self.new.plane.ghost_name ≡ self.old.plane.ghost_name }
+        ensures plane { self.new.plane.now ≡ with_tile self.old.tile samples.now.values.now self.old.plane.now }
     {
         let tile = self.tile;
         let plane = &mut *self.plane;
+        let values = &*samples.values;
         for i in 0..tile.edge {
             let first = (tile.y + i) * usize::from(tile.size.width) + tile.x;
             let from = i * tile.edge;
-            plane[first..first + tile.edge].copy_from_slice(&samples[from..from + tile.edge]);
+            plane[first..first + tile.edge].copy_from_slice(&values[from..from + tile.edge]);
         }
     }
-}
-
-fn sum(samples: &[u8]) -> usize
-    requires { length samples.now ≤ 16 }
-    ensures value { result ≡ list_sum samples.now }
-    ensures bound { result ≤ 255 * length samples.now }
-{
-    samples.iter().map(|sample| usize::from(*sample)).sum()
 }

@@ -1,6 +1,6 @@
 use Rattle.ends.specs.declared.mode.Mode.TheVariants.{Colocated, Vertical, Horizontal}
 use Rattle.ends.specs.Tiles.{predicted}
-use Rattle.ends.proofs.prediction.predict.Given as goal
+use Rattle.ends.proofs.window.Window.predict.Given as goal
 
 -- what a row is filled with, by column and row: the closure of each call holds the window
 abbrev pub ghost-write_rows : goal.ghost-write_rows
