@@ -8,7 +8,7 @@ use crate::coding::{Coding, Heading};
 use crate::end::End;
 use crate::plane::Size;
 use crate::refusal::Refusal;
-use crate::{coder, end, plane, rules};
+use crate::{coder, plane};
 use kinds::Kind;
 
 #[derive(Drop)]
@@ -24,7 +24,7 @@ impl Camera {
         ensures law { RunLaw size first }
     {
         Ok(Camera {
-            end: end::open(size, first, plane)?,
+            end: End::open(size, first, plane)?,
         })
     }
 
@@ -47,7 +47,7 @@ impl Camera {
     ) -> Result<Heading, Refusal>
         ensures { code_call (K.meaning kind.now) self.old.end plane.old coding source.now levels.old ≡ record { answer = result; end = self.new.end; plane = plane.new; levels = levels.new } }
     {
-        let task = rules::check_code(kind, &self.end, plane, coding, source, levels)?;
+        let task = self.end.check_code(kind, plane, coding, source, levels)?;
         coder::code_tile(kind, plane, task, source, levels)?;
         Ok(Heading {
             number: self.end.advance(),
@@ -61,7 +61,7 @@ impl Camera {
     pub fn restart(&mut self, plane: &mut [u8]) -> Result<Heading, Refusal>
         ensures { restart_call self.old.end plane.old ≡ record { answer = result; end = self.new.end; plane = plane.new } }
     {
-        rules::check_restart(&self.end, plane)?;
+        self.end.check_restart(plane)?;
         plane::clear(plane);
         Ok(Heading::restart(self.end.advance()))
     }

@@ -15,6 +15,16 @@ pub struct End {
 }
 
 impl End {
+    // An end of the given size and first count, its plane made blank.
+    #[tactic(auto, unfolding(crate::specs::Calls::opened))]
+    pub fn open(size: Size, first: u32, plane: &mut [u8]) -> Result<End, Refusal>
+        ensures { open_call size first plane.old ≡ record { answer = result; plane = plane.new } }
+    {
+        rules::check_open(size, plane)?;
+        plane::clear(plane);
+        Ok(End { size, count: first })
+    }
+
     // Raises the count by one, and gives the number that it was.
     pub fn advance(&mut self) -> u32
         requires { spent self.old.count ≡ false }
@@ -33,14 +43,4 @@ impl End {
     {
         self.count = number + 1;
     }
-}
-
-// An end of the given size and first count, its plane made blank.
-#[tactic(auto, unfolding(crate::specs::Calls::opened))]
-pub fn open(size: Size, first: u32, plane: &mut [u8]) -> Result<End, Refusal>
-    ensures { open_call size first plane.old ≡ record { answer = result; plane = plane.new } }
-{
-    rules::check_open(size, plane)?;
-    plane::clear(plane);
-    Ok(End { size, count: first })
 }

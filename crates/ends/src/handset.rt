@@ -8,7 +8,7 @@ use crate::coding::Heading;
 use crate::end::End;
 use crate::plane::Size;
 use crate::refusal::Refusal;
-use crate::{coder, end, plane, rules};
+use crate::{coder, plane};
 use kinds::Kind;
 
 #[derive(Drop)]
@@ -24,7 +24,7 @@ impl Handset {
         ensures law { RunLaw size first }
     {
         Ok(Handset {
-            end: end::open(size, first, plane)?,
+            end: End::open(size, first, plane)?,
         })
     }
 
@@ -46,7 +46,7 @@ impl Handset {
     ) -> Result<(), Refusal>
         ensures { follow_call (K.meaning kind.now) self.old.end plane.old heading levels.now ≡ record { answer = result; end = self.new.end; plane = plane.new } }
     {
-        let task = rules::check_follow(kind, &self.end, plane, heading, levels)?;
+        let task = self.end.check_follow(kind, plane, heading, levels)?;
         coder::follow_tile(kind, plane, task, levels)?;
         self.end.advance();
         Ok(())
@@ -57,7 +57,7 @@ impl Handset {
     pub fn resume(&mut self, plane: &mut [u8], heading: Heading) -> Result<(), Refusal>
         ensures { resume_call self.old.end plane.old heading ≡ record { answer = result; end = self.new.end; plane = plane.new } }
     {
-        rules::check_resume(&self.end, plane, heading)?;
+        self.end.check_resume(plane, heading)?;
         plane::clear(plane);
         self.end.advance_past(heading.number);
         Ok(())

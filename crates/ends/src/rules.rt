@@ -22,78 +22,80 @@ pub fn check_open(size: Size, plane: &[u8]) -> Result<(), Refusal>
     check_plane(size, plane)
 }
 
-// What code is to do.
-pub fn check_code<K: Kind>(
-    kind: &K,
-    end: &End,
-    plane: &[u8],
-    coding: Coding,
-    source: &[u8],
-    levels: &[i16],
-) -> Result<Task, Refusal>
-    ensures { result ≡ unless (code_refusal (K.meaning kind.now) end.now plane.now coding source.now levels.now) (task_of end.now.size (K.meaning kind.now).edge coding) }
-{
-    check_plane(end.size, plane)?;
-    if end.count == u32::MAX {
-        return Err(Refusal::Count);
+impl End {
+    // What code is to do.
+    pub fn check_code<K: Kind>(
+        &self,
+        kind: &K,
+        plane: &[u8],
+        coding: Coding,
+        source: &[u8],
+        levels: &[i16],
+    ) -> Result<Task, Refusal>
+        ensures { result ≡ unless (code_refusal (K.meaning kind.now) self.now plane.now coding source.now levels.now) (task_of self.now.size (K.meaning kind.now).edge coding) }
+    {
+        check_plane(self.size, plane)?;
+        if self.count == u32::MAX {
+            return Err(Refusal::Count);
+        }
+        let edge = kind.edge();
+        let area = edge * edge;
+        let miscounted = source.len() != area || levels.len() != area;
+        check_tile(kind, self.size, coding, miscounted)
     }
-    let edge = kind.edge();
-    let area = edge * edge;
-    let miscounted = source.len() != area || levels.len() != area;
-    check_tile(kind, end.size, coding, miscounted)
-}
 
-pub fn check_restart(end: &End, plane: &[u8]) -> Result<(), Refusal>
-    ensures { result ≡ unless (restart_refusal end.now plane.now) tt }
-{
-    check_plane(end.size, plane)?;
-    if end.count == u32::MAX {
-        return Err(Refusal::Count);
+    pub fn check_restart(&self, plane: &[u8]) -> Result<(), Refusal>
+        ensures { result ≡ unless (restart_refusal self.now plane.now) tt }
+    {
+        check_plane(self.size, plane)?;
+        if self.count == u32::MAX {
+            return Err(Refusal::Count);
+        }
+        Ok(())
     }
-    Ok(())
-}
 
-// What follow is to do.
-pub fn check_follow<K: Kind>(
-    kind: &K,
-    end: &End,
-    plane: &[u8],
-    heading: Heading,
-    levels: &[i16],
-) -> Result<Task, Refusal>
-    ensures { result ≡ unless (follow_refusal (K.meaning kind.now) end.now plane.now heading levels.now) (task_of end.now.size (K.meaning kind.now).edge heading.coding) }
-{
-    check_plane(end.size, plane)?;
-    if heading.number == u32::MAX {
-        return Err(Refusal::Count);
+    // What follow is to do.
+    pub fn check_follow<K: Kind>(
+        &self,
+        kind: &K,
+        plane: &[u8],
+        heading: Heading,
+        levels: &[i16],
+    ) -> Result<Task, Refusal>
+        ensures { result ≡ unless (follow_refusal (K.meaning kind.now) self.now plane.now heading levels.now) (task_of self.now.size (K.meaning kind.now).edge heading.coding) }
+    {
+        check_plane(self.size, plane)?;
+        if heading.number == u32::MAX {
+            return Err(Refusal::Count);
+        }
+        if heading.tag != kind.tag() {
+            return Err(Refusal::Tag);
+        }
+        if heading.number < self.count {
+            return Err(Refusal::Late);
+        }
+        if heading.number > self.count {
+            return Err(Refusal::Early);
+        }
+        let edge = kind.edge();
+        check_tile(kind, self.size, heading.coding, levels.len() != edge * edge)
     }
-    if heading.tag != kind.tag() {
-        return Err(Refusal::Tag);
-    }
-    if heading.number < end.count {
-        return Err(Refusal::Late);
-    }
-    if heading.number > end.count {
-        return Err(Refusal::Early);
-    }
-    let edge = kind.edge();
-    check_tile(kind, end.size, heading.coding, levels.len() != edge * edge)
-}
 
-pub fn check_resume(end: &End, plane: &[u8], heading: Heading) -> Result<(), Refusal>
-    ensures { result ≡ unless (resume_refusal end.now plane.now heading) tt }
-{
-    check_plane(end.size, plane)?;
-    if heading.number == u32::MAX {
-        return Err(Refusal::Count);
+    pub fn check_resume(&self, plane: &[u8], heading: Heading) -> Result<(), Refusal>
+        ensures { result ≡ unless (resume_refusal self.now plane.now heading) tt }
+    {
+        check_plane(self.size, plane)?;
+        if heading.number == u32::MAX {
+            return Err(Refusal::Count);
+        }
+        if heading.tag != 0 {
+            return Err(Refusal::Tag);
+        }
+        if heading.number < self.count {
+            return Err(Refusal::Late);
+        }
+        Ok(())
     }
-    if heading.tag != 0 {
-        return Err(Refusal::Tag);
-    }
-    if heading.number < end.count {
-        return Err(Refusal::Late);
-    }
-    Ok(())
 }
 
 // The rules that code and follow share; `miscounted` says that source or levels do not number edge x edge.
@@ -107,11 +109,11 @@ fn check_tile<K: Kind>(
 {
     let qp = Qp::try_from(coding.qp)?;
     let mode = Mode::try_from(coding.mode)?;
-    let tile = Tile::of(size, kind.edge(), coding.x, coding.y).ok_or(Refusal::Place)?;
+    let tile = Tile::new(size, kind.edge(), coding.x, coding.y).ok_or(Refusal::Place)?;
     if miscounted {
         return Err(Refusal::Length);
     }
-    Task::of(tile, mode, qp).ok_or(Refusal::Border)
+    Task::new(tile, mode, qp).ok_or(Refusal::Border)
 }
 
 fn check_plane(size: Size, plane: &[u8]) -> Result<(), Refusal>
@@ -126,5 +128,5 @@ fn check_plane(size: Size, plane: &[u8]) -> Result<(), Refusal>
 fn wrong_side(side: u16) -> bool
     ensures { result ≡ bad_side side }
 {
-    side % 16 != 0 || side < 16 || side > 1024
+    side % 16 != 0 || !(16..=1024).contains(&side)
 }

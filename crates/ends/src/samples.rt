@@ -63,7 +63,5 @@ pub fn subtract(source: &[u8], prediction: &[u8], residual: &mut [i16])
 fn clip(prediction: u8, residual: i16) -> u8
     ensures { result ≡ clip_of (pos prediction +ℤ residual) }
 {
-    i16::from(prediction)
-        .saturating_add(residual)
-        .clamp(0, 255) as u8
+    i16::from(prediction).saturating_add(residual).clamp(0, 255) as u8
 }

@@ -28,8 +28,8 @@ impl Model for Task {
 }
 
 impl Task {
-    // The task, unless what its mode repeats lies outside the plane.
-    pub fn of(tile: Tile, mode: Mode, qp: Qp) -> Option<Task>
+    // The task, if what its mode repeats lies in the plane.
+    pub fn new(tile: Tile, mode: Mode, qp: Qp) -> Option<Task>
         ensures { result ≡ (if no_border tile mode then None else Some (record { tile = tile; mode = mode; qp = qp })) }
     {
         if lacks_border(tile, mode) {

@@ -27,8 +27,8 @@ impl Model for Tile {
 }
 
 impl Tile {
-    // The tile at a place, where it is in line and does not leave the plane.
-    pub fn of(size: Size, edge: usize, x: u16, y: u16) -> Option<Tile>
+    // The tile at a place, if it is in line there and does not leave the plane.
+    pub fn new(size: Size, edge: usize, x: u16, y: u16) -> Option<Tile>
         requires some { 0 < edge }
         requires few { edge ≤ 16 }
         ensures { result ≡ (if bad_place size edge x y then None else Some (record { size = size; x = x; y = y; edge = edge })) }
