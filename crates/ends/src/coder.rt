@@ -6,13 +6,10 @@ ghost use Rattle.ends.specs.Planes.{bytes};
 ghost use Rattle.ends.specs.Tiles.{code_levels, stored};
 
 use crate::samples;
-use crate::samples::Samples;
+use crate::samples::LARGEST;
 use crate::task::Task;
 use crate::window::Window;
 use kinds::{Kind, WidthFault};
-
-// The samples of the largest tile.
-const LARGEST: usize = 256;
 
 // Codes a tile: its levels go into memory and its new samples into the plane, unless the kind refuses.
 pub fn code_tile<K: Kind>(
@@ -37,12 +34,8 @@ pub fn code_tile<K: Kind>(
     let mut reconstruction_memory = [0; LARGEST];
     let residual = &mut residual_memory[..area];
     let reconstruction = &mut reconstruction_memory[..area];
-    let mut samples = Samples {
-        values: &mut sample_memory[..area],
-        edge: tile.edge,
-    };
     let mut window = Window { plane, tile };
-    window.predict(mode, &mut samples);
+    let mut samples = window.predict(mode, &mut sample_memory);
     samples::subtract(source, samples.as_slice(), residual);
     // The answer is taken apart here: a refusal leaves before anything is stored.
     let Ok(()) = kind.levels(qp, mode.sort(), residual, levels, reconstruction) else {
@@ -74,12 +67,8 @@ pub fn follow_tile<K: Kind>(
     let Ok(()) = kind.reconstruct(qp, levels, reconstruction) else {
         return Err(WidthFault);
     };
-    let mut samples = Samples {
-        values: &mut sample_memory[..area],
-        edge: tile.edge,
-    };
     let mut window = Window { plane, tile };
-    window.predict(mode, &mut samples);
+    let mut samples = window.predict(mode, &mut sample_memory);
     window.reconstruct(&mut samples, reconstruction);
     Ok(())
 }

@@ -4,18 +4,22 @@ ghost use Rattle.ends.specs.Tasks.{Bordered};
 ghost use Rattle.ends.specs.Tiles.{above, left, mean as mean_of, prediction};
 
 use crate::mode::Mode;
-use crate::samples::Samples;
+use crate::samples::{LARGEST, Samples};
 use crate::window::Window;
 
 impl Window<'_> {
     #[tactic(auto, unfolding(crate::specs::Tiles::prediction))]
-    pub fn predict(&self, mode: Mode, samples: &mut Samples)
-        requires border { Bordered self.now.tile mode }
-        requires edge { samples.old.edge ≡ self.now.tile.edge }
-        ensures values { samples.new.values.now ≡ prediction mode self.now.tile self.now.plane.now }
-        ensures edge { samples.new.edge ≡ samples.old.edge }
+    // What a mode predicts for the tile, in memory for the largest.
+    pub fn predict<'m>(&self, mode: Mode, memory: &'m mut [u8; LARGEST]) -> Samples<'m>
+        requires { Bordered self.now.tile mode }
+        ensures values { result.values.now ≡ prediction mode self.now.tile self.now.plane.now }
+        ensures edge { result.edge ≡ self.now.tile.edge }
     {
         let tile = self.tile;
+        let mut samples = Samples {
+            values: &mut memory[..tile.area()],
+            edge: tile.edge,
+        };
         match mode {
             Mode::Colocated => samples.write_rows(move |i, row| {
                 row.copy_from_slice(self.row(tile.x, tile.y + i))
@@ -26,8 +30,12 @@ impl Window<'_> {
             Mode::Horizontal => samples.write_rows(move |i, row| {
                 row.fill(self.sample(tile.x - 1, tile.y + i))
             }),
-            Mode::Mean => samples.values.fill(self.mean()),
+            Mode::Mean => {
+                let mean = self.mean();
+                samples.write_rows(move |_i, row| row.fill(mean))
+            }
         }
+        samples
     }
 
     // The mean of the samples above and left of the tile, as far as there are any.

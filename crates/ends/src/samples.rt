@@ -4,6 +4,9 @@ ghost use Rattle.std.specs.List.{range_with_len};
 ghost use Rattle.kinds.specs.Meaning.{Differences};
 ghost use Rattle.ends.specs.Tiles.{residual as residual_of, clip as clip_of, reconstructed};
 
+// The number of samples of the largest tile.
+pub const LARGEST: usize = 256;
+
 #[derive(Drop)]
 pub struct Samples<'a> {
     pub values: &'a mut [u8],

@@ -43,21 +43,20 @@ impl Window<'_> {
         ensures plane { self.new.plane.now ≡ with_tile self.old.tile (reconstructed prediction.old.values.now residual.now) self.old.plane.now }
     {
         prediction.add(residual);
-        self.store(prediction);
+        self.store(prediction.as_slice());
     }
 
-    fn store(&mut self, samples: &Samples)
-        requires { samples.now.edge ≡ self.old.tile.edge }
+    fn store(&mut self, samples: &[u8])
+        requires { length samples.now ≡ self.old.tile.edge * self.old.tile.edge }
         ensures same_reference { self.new.plane.ghost_name ≡ self.old.plane.ghost_name }
-        ensures plane { self.new.plane.now ≡ with_tile self.old.tile samples.now.values.now self.old.plane.now }
+        ensures plane { self.new.plane.now ≡ with_tile self.old.tile samples.now self.old.plane.now }
     {
         let tile = self.tile;
         let plane = &mut *self.plane;
-        let values = &*samples.values;
         for i in 0..tile.edge {
             let first = (tile.y + i) * usize::from(tile.size.width) + tile.x;
             let from = i * tile.edge;
-            plane[first..first + tile.edge].copy_from_slice(&values[from..from + tile.edge]);
+            plane[first..first + tile.edge].copy_from_slice(&samples[from..from + tile.edge]);
         }
     }
 }

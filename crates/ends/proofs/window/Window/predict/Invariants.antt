@@ -11,3 +11,6 @@ ghost-write_rows-2 a = let w = a.write.0.now in predicted Vertical w.tile w.plan
 
 abbrev pub ghost-write_rows-3 : goal.ghost-write_rows-3
 ghost-write_rows-3 a = let w = a.write.0.now in predicted Horizontal w.tile w.plane.now
+
+abbrev pub ghost-write_rows-4 : goal.ghost-write_rows-4
+ghost-write_rows-4 a = λ j i. a.write.0

@@ -13,13 +13,13 @@ loop-i-preserved c =
     let n = t.edge in
     let from = i * n in
     let first = (t.y + i) * t.size.width + t.x in
-    let samples : List ℕ = c.args.samples.now.values.now in
+    let samples : List ℕ = c.args.samples.now in
     let old : List ℕ = c.args.self.now.plane.now in
     let plane : List ℕ = c.loop-i.plane in
     let whole : length old ≡ bytes t.size = c.args.self.now.whole ∙ ap (λ (v : Tile). bytes v.size) (sym c.tile.view_is) in
     let row : List ℕ = c.copy_from_slice.new.self in
     let is = c.copy_from_slice.ensures.after in
-    let square : length samples ≡ n * n = c.args.samples.now.square ∙ ap (λ (k : ℕ). k * k) (c.requires ∙ ap (λ (v : Tile). v.edge) (sym c.tile.view_is)) in
+    let square : length samples ≡ n * n = c.requires ∙ ap (λ (v : Tile). v.edge * v.edge) (sym c.tile.view_is) in
     let end : from + n ≤ length samples = omega (arith, row_end i n n (omega arith)) in
     let exact : from + n - from ≡ n = omega arith in
     let long : length row ≡ n = ap length is ∙ length-between samples from (from + n) end ∙ exact in
@@ -32,7 +32,7 @@ loop-i-preserved c =
 pub returns-clause-plane : goal.returns-clause-plane
 returns-clause-plane c =
     let t : Tile = record { size = c.tile.inside.size; x = c.tile.inside.x; y = c.tile.inside.y; edge = c.tile.inside.edge } in
-    let samples : List ℕ = c.args.samples.now.values.now in
+    let samples : List ℕ = c.args.samples.now in
     let old : List ℕ = c.args.self.now.plane.now in
     let plane : List ℕ = c.loop-i.plane in
     let all : c.loop-i.i ≡ t.edge = omega arith in
