@@ -1,9 +1,9 @@
 -- Rows of samples: parts of a list, a tile filled row by row, and a plane written row by row.
-use Rattle.std.proofs.Common.{◌≡◌, ℕ, ◌+◌, ◌-◌, ◌*◌, ◌/◌, ◌%◌, ◌<◌, ◌≤◌, Bool, true, false, cond, ◌&&◌, eqb, ltb, leb, List, ◌++◌, map, length, get_or, take, drop, sym, refl, ap, ◌∙◌, subst, ⊎_elim, arith}
+use Rattle.std.proofs.Common.{◌≡◌, ℕ, ◌+◌, ◌-◌, ◌*◌, ◌/◌, ◌%◌, ◌<◌, ◌≤◌, Bool, true, false, cond, ◌&&◌, eqb, ltb, leb, List, ◌++◌, map, length, get_or, take, drop, sym, refl, ap, ◌∙◌, subst, ⊎_elim, arith, rules}
 use borrow.Rule.Slice.PartMut.{put_mid}
 use Rattle.std.specs.List.{range_with_len}
 use Rattle.std.proofs.lemmas.List.FromFn.{fill_by_all, length-map-range_with_len, get_or-map-range_with_len}
-use Rattle.std.proofs.lemmas.List.{ext_get_or, get_or_append_left, get_or-append_right, get_or-take, get_or-drop, length-take-le}
+use Rattle.std.proofs.lemmas.List.{places, ext_get_or, get_or_append_left, get_or-append_right, get_or-take, get_or-drop, length-take-le}
 use Rattle.std.proofs.lemmas.Nat.{mul-le, mul-add-lt, div-mul-add, mod-mul-add, div-add-mod', div_below, mod_below}
 use Rattle.std.proofs.lemmas.Bool.{cases_eq, cases_lt, cases_order, and_from, and_left, and_right, and_parts, eq-eqb, ne_eqb, le-leb, lt-leb, lt-ltb, le-ltb, leb-true, ltb-true, cond-true, cond-false}
 use Rattle.ends.specs.declared.plane.Size.{Size}
@@ -33,21 +33,13 @@ within_end s bytes x y count w = let a = w.size in let b = w.right in omega (ari
 -- a list with ys written from a on
 module _ (a k : ℕ) (xs ys : List ℕ) (low : a ≤ length xs) where
   pub put_before : (i : ℕ) → i < a → get_or (put_mid a k xs ys) i 0 ≡ get_or xs i 0
-  put_before i h = get_or_append_left (take a xs) _ 0 i (let e = length-take-le a xs low in omega arith) ∙ get_or-take a xs i 0 h
+  put_before i h = search (rules, places)
 
   pub put_in : (i : ℕ) → i < length ys → get_or (put_mid a k xs ys) (a + i) 0 ≡ get_or ys i 0
-  put_in i h =
-      get_or-append_right (take a xs) _ a (a + i) 0 (length-take-le a xs low) (omega arith)
-      ∙ ap (λ (j : ℕ). get_or (ys ++ drop k (drop a xs)) j 0) (omega arith)
-      ∙ get_or_append_left ys _ 0 i h
+  put_in i h = search (rules, places)
 
   pub put_after : (i : ℕ) → length ys ≡ k → a + k ≤ i → get_or (put_mid a k xs ys) i 0 ≡ get_or xs i 0
-  put_after i e h =
-      get_or-append_right (take a xs) _ a i 0 (length-take-le a xs low) (omega arith)
-      ∙ get_or-append_right ys _ k (i - a) 0 e (omega arith)
-      ∙ get_or-drop k (drop a xs) (i - a - k) 0
-      ∙ get_or-drop a xs (k + (i - a - k)) 0
-      ∙ ap (λ (j : ℕ). get_or xs j 0) (omega arith)
+  put_after i e h = search (rules, places)
 
 -- ---- a tile, filled row by row
 
