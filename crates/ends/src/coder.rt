@@ -37,7 +37,7 @@ pub fn code_tile<K: Kind>(
     let mut window = Window { plane, tile };
     let mut samples = window.predict(mode, &mut sample_memory);
     samples::subtract(source, samples.as_slice(), residual);
-    // The answer is taken apart here: a refusal leaves before anything is stored.
+    // A rule of the project: the answer is taken apart here, and a refusal leaves before anything is stored.
     let Ok(()) = kind.levels(qp, mode.sort(), residual, levels, reconstruction) else {
         return Err(WidthFault);
     };
@@ -63,7 +63,7 @@ pub fn follow_tile<K: Kind>(
     let mut sample_memory = [0; LARGEST];
     let mut reconstruction_memory = [0; LARGEST];
     let reconstruction = &mut reconstruction_memory[..area];
-    // The answer is taken apart here: a refusal leaves before anything is stored.
+    // A rule of the project: the answer is taken apart here, and a refusal leaves before anything is stored.
     let Ok(()) = kind.reconstruct(qp, levels, reconstruction) else {
         return Err(WidthFault);
     };

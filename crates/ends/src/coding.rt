@@ -3,6 +3,7 @@ ghost use Rattle.std.specs.Prelude.{◌≡◌};
 ghost use Rattle.ends.specs.Calls.{restart_heading};
 
 // The place of the tile's top left sample, its QP and its mode, as yet unchecked.
+// They stay plain numbers: what goes over the radio is fixed, and what is handed in may be anything.
 #[derive(Clone, Copy)]
 pub struct Coding {
     pub x: u16,

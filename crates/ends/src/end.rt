@@ -1,4 +1,5 @@
 // What both ends hold: the size of their plane, and their count.
+// Camera and handset stay two types over it, so that no call of the one can be made on the other.
 ghost use Rattle.std.specs.Prelude.{◌≡◌, ◌+◌, false};
 ghost use Rattle.ends.specs.Calls.{open_call, end_of};
 ghost use Rattle.ends.specs.Refusals.{spent};

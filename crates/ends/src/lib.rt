@@ -1,6 +1,7 @@
 // The two ends of the monitor, the upper layer: a camera codes tiles of its plane, a handset follows.
 // camera, handset: the public calls; their contracts pin every answer, and carry the law over all runs.
-// Below them: rules (refusals), coder (a tile through a kind), prediction, tile, plane. Kinds are used by their promise alone.
+// Below them: rules (what is handed in becomes a task, or is refused), coder (a tile through a kind), window (a tile in its
+// lent plane) with prediction, and samples. Kinds are used by their promise alone.
 #![tactic(auto)]
 
 mod camera;

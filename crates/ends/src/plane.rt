@@ -2,7 +2,7 @@
 ghost use Rattle.std.specs.Prelude.{◌≡◌, length};
 ghost use Rattle.ends.specs.Planes.{blank};
 
-// The width and the height of a plane, in samples.
+// The width and the height of a plane, in samples, as yet unchecked: only open tests them.
 #[derive(Clone, Copy)]
 pub struct Size {
     pub width: u16,

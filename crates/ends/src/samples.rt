@@ -32,6 +32,7 @@ impl Samples<'_> {
     {
         let edge = self.edge;
         let values = &mut *self.values;
+        // By number: after a loop over chunks_exact_mut the check knows no sample.
         for i in 0..edge {
             write(i, &mut values[i * edge..i * edge + edge]);
         }
@@ -44,6 +45,7 @@ impl Samples<'_> {
         ensures edge { self.new.edge ≡ self.old.edge }
     {
         let values = &mut *self.values;
+        // The residual by number: after a loop over a zip with iter_mut the check knows no sample.
         for (k, value) in values.iter_mut().enumerate() {
             *value = clip(*value, residual[k]);
         }
@@ -57,6 +59,7 @@ pub fn subtract(source: &[u8], prediction: &[u8], residual: &mut [i16])
     ensures value { residual.new ≡ residual_of source.now prediction.now }
     ensures narrow { Differences residual.new }
 {
+    // Both by number, as in `add`.
     for (k, difference) in residual.iter_mut().enumerate() {
         *difference = i16::from(source[k]) - i16::from(prediction[k]);
     }
