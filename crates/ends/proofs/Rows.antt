@@ -1,9 +1,10 @@
 -- Rows of samples: parts of a list, a tile filled row by row, and a plane written row by row.
-use Rattle.std.proofs.Common.{◌≡◌, ℕ, ◌+◌, ◌-◌, ◌*◌, ◌/◌, ◌%◌, ◌<◌, ◌≤◌, Bool, true, false, cond, ◌&&◌, eqb, ltb, leb, List, ◌++◌, map, length, get_or, take, drop, sym, refl, ap, ◌∙◌, subst, ⊎_elim, arith, rules}
+use Rattle.std.proofs.Common.{◌≡◌, ℕ, ◌+◌, ◌-◌, ◌*◌, ◌/◌, ◌%◌, ◌<◌, ◌≤◌, Bool, true, false, cond, ◌&&◌, eqb, ltb, leb, List, ◌++◌, map, length, get_or, take, drop, length-append, sym, refl, ap, ◌∙◌, subst, ⊎_elim, arith, rules}
 use borrow.Rule.Slice.PartMut.{put_mid}
 use Rattle.std.specs.List.{range_with_len}
 use Rattle.std.proofs.lemmas.List.FromFn.{fill_by_all, length-map-range_with_len, get_or-map-range_with_len}
-use Rattle.std.proofs.lemmas.List.{places, ext_get_or, get_or_append_left, get_or-append_right, get_or-take, get_or-drop, length-take-le}
+use Rattle.std.proofs.lemmas.List.{places, ext_get_or, get_or_append_left, get_or-drop, length-drop, drop-drop}
+use Rattle.std.proofs.Math.Seq.{drop-append_seam}
 use Rattle.std.proofs.lemmas.Nat.{mul-le, mul-add-lt, div-mul-add, mod-mul-add, div-add-mod', div_below, mod_below}
 use Rattle.std.proofs.lemmas.Bool.{cases_eq, cases_lt, cases_order, and_from, and_left, and_right, and_parts, eq-eqb, ne_eqb, le-leb, lt-leb, lt-ltb, le-ltb, leb-true, ltb-true, cond-true, cond-false}
 use Rattle.ends.specs.declared.plane.Size.{Size}
@@ -27,7 +28,7 @@ pub record Within (s : Size) (long x y count : ℕ) : Type 0 where
 abbrev pub on_row : (x y count : ℕ) → (col row : ℕ) → Bool
 on_row x y count col row = eqb row y && (leb x col && ltb col (x + count))
 
-within_end : (s : Size) (bytes x y count : ℕ) → Within s bytes x y count → y * s.width + x + count ≤ bytes
+pub within_end : (s : Size) (bytes x y count : ℕ) → Within s bytes x y count → y * s.width + x + count ≤ bytes
 within_end s bytes x y count w = let a = w.size in let b = w.right in omega (arith, row_end y s.width s.height w.bottom)
 
 -- a list with ys written from a on
@@ -42,6 +43,31 @@ module _ (a k : ℕ) (xs ys : List ℕ) (low : a ≤ length xs) where
   put_after i e h = search (rules, places)
 
 -- ---- a tile, filled row by row
+
+-- the samples from row i of n on: a row, and the rows below it
+module _ (i n : ℕ) (samples from row below : List ℕ) (square : length samples ≡ n * n) (some : 0 < n) (is : from ≡ drop (i * n) samples) (cut : from ≡ row ++ below) (wide : length row ≡ n) where
+  pub row_in : i < n
+  row_in = ⊎_elim
+      (λ (l : i < n). l)
+      (λ (l : n ≤ i). absurd (omega (arith, mul-le n n i n l (omega arith), ap length is, length-drop (i * n) samples, ap length cut, length-append row below)))
+      (cases_lt i n)
+
+  pub row_holds : (j : ℕ) → j < n → get_or row j 0 ≡ get_or samples (i * n + j) 0
+  row_holds j h = sym (get_or_append_left row below 0 j (omega arith)) ∙ ap (λ (xs : List ℕ). get_or xs j 0) (sym cut ∙ is) ∙ get_or-drop (i * n) samples j 0
+
+  pub below_is : below ≡ drop ((i + 1) * n) samples
+  below_is =
+      sym (drop-append_seam row below)
+      ∙ ap (drop (length row)) (sym cut ∙ is)
+      ∙ drop-drop (length row) (i * n) samples
+      ∙ ap (λ (k : ℕ). drop k samples) (omega arith)
+
+-- where fewer samples than a row are left, there were all rows
+pub rows_end : (i n : ℕ) (samples from : List ℕ) → length samples ≡ n * n → from ≡ drop (i * n) samples → length from < n → i ≤ n → i ≡ n
+rows_end i n samples from square is few last = ⊎_elim
+    (λ (l : i < n). absurd (omega (arith, mul-le (i + 1) n n n (omega arith) (omega arith), ap length is, length-drop (i * n) samples)))
+    (λ (l : n ≤ i). omega arith)
+    (cases_lt i n)
 
 -- rows below i of a tile of edge n hold f of column and row
 abbrev pub Rows : (ℕ → ℕ → ℕ) → ℕ → List ℕ → ℕ → Type 0

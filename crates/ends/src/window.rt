@@ -53,10 +53,9 @@ impl Window<'_> {
     {
         let tile = self.tile;
         let plane = &mut *self.plane;
-        for i in 0..tile.edge {
+        for (i, row) in samples.chunks_exact(tile.edge).enumerate() {
             let first = (tile.y + i) * usize::from(tile.size.width) + tile.x;
-            let from = i * tile.edge;
-            plane[first..first + tile.edge].copy_from_slice(&samples[from..from + tile.edge]);
+            plane[first..first + tile.edge].copy_from_slice(row);
         }
     }
 }
