@@ -12,10 +12,8 @@ slice_bounds-copy_from_slice-end c =
     let plane : List ℕ = c.loop-i.plane in
     let before = c.loop-i.invariant in
     let step = c.in-Some.ensures.steps in
-    let square = c.requires ∙ ap (λ (v : Tile). v.edge * v.edge) (sym c.tile.view_is) in
-    let whole = c.args.self.now.whole ∙ ap (λ (v : Tile). bytes v.size) (sym c.tile.view_is) in
-    let in-tile : i < t.edge = row_in i t.edge c.args.samples.now _ _ _ square c.tile.invariant.some before.rest step.0.1.0 (step.0.1.1 ∙ before.wide) in
-    let w : Within t.size (length plane) t.x (t.y + i) t.edge = record { size = c.loop-i.auto.plane ∙ whole; right = omega arith; bottom = omega arith } in
+    let in-tile : i < t.edge = row_in i t.edge c.args.samples.now _ _ _ before.square c.tile.invariant.some before.rest step.0.1.0 (step.0.1.1 ∙ before.wide) in
+    let w : Within t.size (length plane) t.x (t.y + i) t.edge = record { size = before.whole; right = omega arith; bottom = omega arith } in
     rw (c.from.ensures, step.1) (omega (arith, within_end t.size (length plane) t.x (t.y + i) t.edge w))
 
 pub loop-i-preserved : goal.loop-i-preserved
@@ -29,20 +27,20 @@ loop-i-preserved c =
     let plane : List ℕ = c.loop-i.plane in
     let before = c.loop-i.invariant in
     let step = c.in-Some.ensures.steps in
-    let square : length samples ≡ n * n = c.requires ∙ ap (λ (v : Tile). v.edge * v.edge) (sym c.tile.view_is) in
-    let whole : length old ≡ bytes t.size = c.args.self.now.whole ∙ ap (λ (v : Tile). bytes v.size) (sym c.tile.view_is) in
     let row : List ℕ = c.copy_from_slice.new.self in
     let is : row ≡ c.in-Some.row.now = c.copy_from_slice.ensures.after in
     let wide : length c.in-Some.row.now ≡ n = step.0.1.1 ∙ before.wide in
     let long : length row ≡ n = ap length is ∙ wide in
-    let in-tile : i < n = row_in i n samples _ _ _ square c.tile.invariant.some before.rest step.0.1.0 wide in
-    let w : Within t.size (length plane) t.x (t.y + i) (length row) = record { size = c.loop-i.auto.plane ∙ whole; right = omega arith; bottom = omega arith } in
+    let in-tile : i < n = row_in i n samples _ _ _ before.square c.tile.invariant.some before.rest step.0.1.0 wide in
+    let w : Within t.size (length plane) t.x (t.y + i) (length row) = record { size = before.whole; right = omega arith; bottom = omega arith } in
     rw (c.from.ensures, step.1, step.2) (record {
+      square = before.square;
+      whole = search rules;
       wide = step.0.0 ∙ before.wide;
-      rest = below_is i n samples _ _ _ square c.tile.invariant.some before.rest step.0.1.0 wide;
+      rest = below_is i n samples _ _ _ before.square c.tile.invariant.some before.rest step.0.1.0 wide;
       count = omega arith;
       part = part_more t samples old plane _ row i long
-          (λ j h. ap (λ (xs : List ℕ). get_or xs j 0) is ∙ row_holds i n samples _ _ _ square c.tile.invariant.some before.rest step.0.1.0 wide j h)
+          (λ j h. ap (λ (xs : List ℕ). get_or xs j 0) is ∙ row_holds i n samples _ _ _ before.square c.tile.invariant.some before.rest step.0.1.0 wide j h)
           (row_written t.size plane row t.x (t.y + i) k w (omega arith)) before.part;
     })
 
@@ -54,9 +52,7 @@ returns-clause-plane c =
     let plane : List ℕ = c.loop-i.plane in
     let before = c.loop-i.invariant in
     let step = c.in-None.ensures.steps in
-    let square = c.requires ∙ ap (λ (v : Tile). v.edge * v.edge) (sym c.tile.view_is) in
-    let whole = c.args.self.now.whole ∙ ap (λ (v : Tile). bytes v.size) (sym c.tile.view_is) in
-    let all = rows_end c.loop-i.i-iterator.count t.edge samples _ square before.rest (omega (arith, step.0.1.0, before.wide)) before.count in
+    let all = rows_end c.loop-i.i-iterator.count t.edge samples _ before.square before.rest (omega (arith, step.0.1.0, before.wide)) before.count in
     let some : 0 < t.size.width = omega arith in
-    part_all t samples old plane whole some c.loop-i.auto.plane (subst (Part t samples old plane) all before.part)
+    part_all t samples old plane (sym c.loop-i.auto.plane ∙ before.whole) some c.loop-i.auto.plane (subst (Part t samples old plane) all before.part)
     ∙ ap (λ (v : Tile). with_tile v samples old) c.tile.view_is

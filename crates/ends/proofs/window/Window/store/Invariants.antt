@@ -1,4 +1,4 @@
-use Rattle.std.proofs.Common.{◌≡◌, ◌*◌, ◌≤◌, drop}
+use Rattle.std.proofs.Common.{◌≡◌, ◌*◌, ◌≤◌, length, drop}
 use Rattle.ends.proofs.Rows.{Part}
 use Rattle.ends.proofs.window.Window.store.Given as goal
 
@@ -6,6 +6,8 @@ abbrev pub invariant-loop-i : goal.invariant-loop-i
 invariant-loop-i l =
     let t = l.tile-inside in
     let at = l.i-iterator in record {
+      square : length l.samples ≡ t.edge * t.edge;
+      whole : length l.plane ≡ t.size.width * t.size.height;
       wide : at.iter.size ≡ t.edge;
       rest : at.iter.rest.now ≡ drop (at.count * t.edge) l.samples;
       count : at.count ≤ t.edge;
