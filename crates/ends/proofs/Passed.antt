@@ -1,9 +1,10 @@
 -- The first rule that fits, and what is known where none does.
-use Rattle.std.proofs.Common.{◌≡◌, ℕ, zero, suc, ◌<◌, ◌≤◌, Bool, true, false, cond, [], ◌∷◌, Some, None, refl, ◌∙◌, ⊎_elim, arith}
+use Rattle.std.proofs.Common.{◌≡◌, ℕ, zero, suc, ◌<◌, ◌≤◌, Bool, true, false, cond, [], ◌∷◌, Some, None, Err, Option, refl, ◌∙◌, ⊎_elim, arith}
 use Rattle.std.proofs.lemmas.Bool.{cond-false}
 use Rattle.kinds.specs.Meaning.{Meaning, Facts}
 use Rattle.ends.specs.declared.refusal.Refusal.{Refusal}
 use Rattle.ends.specs.Refusals.{Rules, first_of}
+use Rattle.ends.specs.Inner.{unless}
 
 -- ---- the first rule that fits
 
@@ -38,6 +39,12 @@ none_clear (r ∷ rs) e = go r.0 refl e (none_clear rs)
 pub clear_none : (rs : Rules) → Clear rs → first_of rs ≡ None
 clear_none [] c = refl
 clear_none (r ∷ rs) c = cond-false r.0 (Some r.1) (first_of rs) c.0 ∙ clear_none rs c.1
+
+-- ---- what the rules of a call answered
+
+pub refused : {A : Type 0} (o : Option Refusal) (a : A) (r : Refusal) → Err r ≡ unless o a → o ≡ Some r
+refused None a r e = cc
+refused (Some s) a r e = cc
 
 -- ---- edges
 

@@ -3,12 +3,8 @@ use Rattle.std.proofs.lemmas.Result.{err_from_is_err_and}
 use Rattle.ends.specs.declared.refusal.Refusal.{Refusal}
 use Rattle.ends.specs.Refusals.{follow_refusal}
 use Rattle.ends.specs.Calls.{followed}
-use Rattle.ends.specs.Inner.{unless}
+use Rattle.ends.proofs.Passed.{refused}
 use Rattle.ends.proofs.handset.Handset.follow.Goals as goal
-
-refused : {A : Type 0} (o : Option Refusal) (a : A) (r : Refusal) → Err r ≡ unless o a → o ≡ Some r
-refused None a r e = cc
-refused (Some s) a r e = cc
 
 pub returns-in_err-task : goal.returns-in_err-task
 unfolding followed
