@@ -49,14 +49,14 @@ byte_cond false x y hx hy = hy
 
 bytes_counted : (f : ℕ → ℕ) (n : ℕ) → ((k : ℕ) → f k < 256) → Bytes (map f (range_with_len 0 n))
 bytes_counted f n h k = ⊎_elim
-    (λ (l : k < n). subst (λ (v : ℕ). v < 256) (sym (get_or-map-range_with_len f 0 n k k 0 l (omega arith))) (h k))
-    (λ (l : n ≤ k). let e : get_or (map f (range_with_len 0 n)) k 0 ≡ 0 = get_or_past (map f (range_with_len 0 n)) k 0 (let q : length (map f (range_with_len 0 n)) ≡ n = length-map-range_with_len f 0 n in omega arith) in omega arith)
+    (λ (l : k < n). let e = get_or-map-range_with_len f 0 n k k 0 l (omega arith) in omega (arith, h k))
+    (λ (l : n ≤ k). let e = get_or_past (map f (range_with_len 0 n)) k 0 (omega (arith, length-map-range_with_len f 0 n)) in omega arith)
     (cases_lt k n)
 
 pub bytes_blank : (n : ℕ) → Bytes (blank n)
 bytes_blank n k = ⊎_elim
-    (λ (h : k < n). let e : get_or (blank n) k 0 ≡ 128 = get_or-replicate n k 128 0 h in omega arith)
-    (λ (h : n ≤ k). let e : get_or (blank n) k 0 ≡ 0 = get_or_past (blank n) k 0 (let l : length (blank n) ≡ n = length-replicate n 128 in omega arith) in omega arith)
+    (λ (h : k < n). omega (arith, get_or-replicate {A = ℕ} n k 128 0 h))
+    (λ (h : n ≤ k). omega (arith, get_or_past (blank n) k 0 (omega (arith, length-replicate {A = ℕ} n 128))))
     (cases_lt k n)
 
 pub bytes_reconstructed : (pred : List ℕ) (rebuilt : List ℤ) → Bytes (reconstructed pred rebuilt)

@@ -2,7 +2,8 @@
 use Rattle.std.proofs.Common.{◌≡◌, ℕ, ◌+◌, ◌-◌, ◌*◌, ◌<◌, ◌≤◌, Bool, true, false, cond, List, length, get_or, ℤ, pos, ◌-ℤ◌, Some, None, Option, sym, refl, ◌∙◌, subst, arith}
 use Rattle.std.specs.Option as options
 use Rattle.std.proofs.lemmas.Nat.{mul-add-lt}
-use Rattle.std.proofs.lemmas.Bool.{and_parts, leb-true, ltb-true, cond-true, cond-false}
+use Rattle.std.proofs.lemmas.Bool.Decides.{nat_tests}
+use Rattle.std.proofs.lemmas.Bool.{cond-true, cond-false}
 use Rattle.kinds.specs.Meaning.{Meaning, Facts, Near}
 use Rattle.ends.specs.declared.coding.Coding.{Coding}
 use Rattle.ends.specs.Tasks.{Task}
@@ -27,15 +28,7 @@ unchanged s before after col row (Some d) e c = subst (λ (v : ℕ). (v ≤ d.0 
 
 -- where a place that the tile covers stands in it
 in_tile : (t : Tile) (col row : ℕ) → covers t col row ≡ true → offset t col row < t.edge * t.edge
-in_tile t col row e =
-    let both = and_parts _ _ e in
-    let cols = and_parts _ _ both.0 in
-    let rows = and_parts _ _ both.1 in
-    let c1 : t.x ≤ col = leb-true t.x col cols.0 in
-    let c2 : col < t.x + t.edge = ltb-true col _ cols.1 in
-    let r1 : t.y ≤ row = leb-true t.y row rows.0 in
-    let r2 : row < t.y + t.edge = ltb-true row _ rows.1 in
-    mul-add-lt (row - t.y) t.edge (col - t.x) t.edge (omega arith) (omega arith)
+in_tile t col row e = mul-add-lt (row - t.y) t.edge (col - t.x) t.edge (grind (arith, nat_tests)) (grind (arith, nat_tests))
 
 module _ (s : Size) (m : Meaning) (facts : Facts m) (plane : List ℕ) (long : length plane ≡ bytes s) (byte : Bytes plane)
     (c : Coding) (source : List ℕ) (sources : Bytes source) (low : c.qp ≤ 51) where

@@ -1,5 +1,5 @@
 -- The first rule that fits, and what is known where none does.
-use Rattle.std.proofs.Common.{◌≡◌, ℕ, zero, suc, ◌<◌, ◌≤◌, Bool, true, false, cond, [], ◌∷◌, Some, None, Err, Option, refl, ◌∙◌, ⊎_elim, arith}
+use Rattle.std.proofs.Common.{◌≡◌, ℕ, zero, suc, ◌<◌, ◌≤◌, Bool, true, false, cond, [], ◌∷◌, Some, None, Err, Option, refl, ◌∙◌, arith}
 use Rattle.std.proofs.lemmas.Bool.{cond-false}
 use Rattle.kinds.specs.Meaning.{Meaning, Facts}
 use Rattle.ends.specs.declared.refusal.Refusal.{Refusal}
@@ -49,7 +49,4 @@ refused (Some s) a r e = cc
 -- ---- edges
 
 pub edge_bounds : (m : Meaning) → Facts m → (0 < m.edge) × (m.edge ≤ 16)
-edge_bounds m facts = ⊎_elim
-    (λ (e : m.edge ≡ 4). (omega arith, omega arith))
-    (⊎_elim (λ (e : m.edge ≡ 8). (omega arith, omega arith)) (λ (e : m.edge ≡ 16). (omega arith, omega arith)))
-    facts.edges
+edge_bounds m facts = (grind (arith, facts.edges), grind (arith, facts.edges))

@@ -1,12 +1,13 @@
 -- Rows of samples: parts of a list, a tile filled row by row, and a plane written row by row.
-use Rattle.std.proofs.Common.{◌≡◌, ℕ, ◌+◌, ◌-◌, ◌*◌, ◌/◌, ◌%◌, ◌<◌, ◌≤◌, Bool, true, false, cond, ◌&&◌, eqb, ltb, leb, List, ◌++◌, map, length, get_or, take, drop, length-append, sym, refl, ap, ◌∙◌, subst, ⊎_elim, arith, rules}
+use Rattle.std.proofs.Common.{◌≡◌, ℕ, ◌+◌, ◌-◌, ◌*◌, ◌/◌, ◌%◌, ◌<◌, ◌≤◌, Bool, cond, ◌&&◌, eqb, ltb, leb, List, ◌++◌, map, length, get_or, drop, length-append, sym, ap, ◌∙◌, subst, ⊎_elim, arith, rules}
 use borrow.Rule.Slice.PartMut.{put_mid}
 use Rattle.std.specs.List.{range_with_len}
 use Rattle.std.proofs.lemmas.List.FromFn.{fill_by_all, length-map-range_with_len, get_or-map-range_with_len}
 use Rattle.std.proofs.lemmas.List.{places, ext_get_or, get_or_append_left, get_or-drop, length-drop, drop-drop}
 use Rattle.std.proofs.Math.Seq.{drop-append_seam}
+use Rattle.std.proofs.lemmas.Bool.Decides.{nat_tests}
 use Rattle.std.proofs.lemmas.Nat.{mul-le, mul-add-lt, div-mul-add, mod-mul-add, div-add-mod', div_below, mod_below}
-use Rattle.std.proofs.lemmas.Bool.{cases_eq, cases_lt, cases_order, and_from, and_left, and_right, and_parts, eq-eqb, ne_eqb, le-leb, lt-leb, lt-ltb, le-ltb, leb-true, ltb-true, cond-true, cond-false}
+use Rattle.std.proofs.lemmas.Bool.{cases_eq, cases_lt, cases_order}
 use Rattle.ends.specs.declared.plane.Size.{Size}
 use Rattle.ends.specs.Tasks.{Tile}
 use Rattle.ends.specs.Planes.{bytes, sample}
@@ -110,28 +111,26 @@ module _ (s : Size) where
         → sample s written col row ≡ cond (on_row x y (length samples) col row) (get_or samples (col - x) 0) (sample s old col row)
     row_written col row hc hr = ⊎_elim level (⊎_elim higher lower) (cases_order row y)
       where
-        off : on_row x y (length samples) col row ≡ false → sample s written col row ≡ sample s old col row
-            → sample s written col row ≡ cond (on_row x y (length samples) col row) (get_or samples (col - x) 0) (sample s old col row)
-        off e q = q ∙ sym (cond-false _ _ _ e)
+        at : ℕ
+        at = row * s.width + col
 
         higher : row < y → sample s written col row ≡ cond (on_row x y (length samples) col row) (get_or samples (col - x) 0) (sample s old col row)
-        higher l = off (and_left _ _ (ne_eqb row y (λ e. omega arith)))
-            (put_before first k old samples low (row * s.width + col) (omega (arith, mul-add-lt row s.width col y l hc)))
+        higher l = let e = put_before first k old samples low at (omega (arith, mul-add-lt row s.width col y l hc)) in grind (arith, nat_tests)
 
         lower : y < row → sample s written col row ≡ cond (on_row x y (length samples) col row) (get_or samples (col - x) 0) (sample s old col row)
-        lower l = off (and_left _ _ (ne_eqb row y (λ e. omega arith)))
-            (put_after first k old samples low (row * s.width + col) is (let r = w.right in omega (arith, row_end y s.width row l)))
+        lower l = let e = put_after first k old samples low at is (let r = w.right in omega (arith, row_end y s.width row l)) in grind (arith, nat_tests)
 
         level : row ≡ y → sample s written col row ≡ cond (on_row x y (length samples) col row) (get_or samples (col - x) 0) (sample s old col row)
-        level e = ⊎_elim
-            (λ (l : col < x). off (and_right (eqb row y) _ (and_left _ _ (lt-leb x col l))) (put_before first k old samples low (row * s.width + col) (let p = ap (λ (q : ℕ). q * s.width) e in omega arith)))
+        level e =
+            let p : row * s.width ≡ y * s.width = ap (λ (q : ℕ). q * s.width) e in
+            ⊎_elim
+            (λ (l : col < x). let q = put_before first k old samples low at (omega arith) in grind (arith, nat_tests))
             (λ (l : x ≤ col). ⊎_elim
             (λ (u : col < x + length samples).
-            ap (λ (q : ℕ). get_or written q 0) (let p : row * s.width ≡ y * s.width = ap (λ (q : ℕ). q * s.width) e in let z : row * s.width + col ≡ first + (col - x) = omega arith in z)
-            ∙ put_in first k old samples low (col - x) (omega arith)
-            ∙ sym (cond-true _ _ _ (and_from _ _ (eq-eqb row y e) (and_from _ _ (le-leb x col l) (lt-ltb col (x + length samples) u)))))
-            (λ (u : x + length samples ≤ col). off (and_right (eqb row y) _ (and_right (leb x col) _ (le-ltb col (x + length samples) u)))
-            (put_after first k old samples low (row * s.width + col) is (let p : row * s.width ≡ y * s.width = ap (λ (q : ℕ). q * s.width) e in omega arith)))
+            let z : first + (col - x) ≡ at = omega arith in
+            let q = rw z at (put_in first k old samples low (col - x) (omega arith)) in
+            grind (arith, nat_tests))
+            (λ (u : x + length samples ≤ col). let q = put_after first k old samples low at is (omega arith) in grind (arith, nat_tests))
             (cases_lt col (x + length samples)))
             (cases_lt col x)
 
@@ -146,52 +145,23 @@ module _ (t : Tile) (tile old : List ℕ) where
   across col = leb t.x col && ltb col (t.x + t.edge)
 
   pub part_none : Part t tile old old 0
-  part_none col row hc hr = sym (cond-false _ _ _ (and_right (across col) _ (none (leb t.y row) refl)))
-    where
-      none : (b : Bool) → leb t.y row ≡ b → (b && ltb row (t.y + 0)) ≡ false
-      none false e = refl
-      none true e = le-ltb row (t.y + 0) (let l = leb-true t.y row e in omega arith)
+  part_none col row hc hr = grind (arith, nat_tests)
 
   pub part_more : (plane new row-i : List ℕ) (i : ℕ) → length row-i ≡ t.edge → ((j : ℕ) → j < t.edge → get_or row-i j 0 ≡ get_or tile (i * t.edge + j) 0)
       → ((col row : ℕ) → col < t.size.width → row < t.size.height
       → sample t.size new col row ≡ cond (on_row t.x (t.y + i) (length row-i) col row) (get_or row-i (col - t.x) 0) (sample t.size plane col row))
       → Part t tile old plane i → Part t tile old new (i + 1)
   part_more plane new row-i i long is written part col row hc hr =
-      written col row hc hr ∙ subst (λ (n : ℕ). cond (on_row t.x (t.y + i) n col row) (get_or row-i (col - t.x) 0) (sample t.size plane col row) ≡ after) (sym long)
-      (⊎_elim level other (cases_eq row (t.y + i)))
-    where
-      after : ℕ
-      after = cond (across col && (leb t.y row && ltb row (t.y + (i + 1)))) (get_or tile (offset t col row) 0) (sample t.size old col row)
-
-      level : row ≡ t.y + i → cond (on_row t.x (t.y + i) t.edge col row) (get_or row-i (col - t.x) 0) (sample t.size plane col row) ≡ after
-      level e = go (across col) refl
-        where
-          down : (leb t.y row && ltb row (t.y + (i + 1))) ≡ true
-          down = and_from _ _ (le-leb t.y row (omega arith)) (lt-ltb row (t.y + (i + 1)) (omega arith))
-
-          go : (b : Bool) → across col ≡ b → cond (on_row t.x (t.y + i) t.edge col row) (get_or row-i (col - t.x) 0) (sample t.size plane col row) ≡ after
-          go true a =
-              let cs = and_parts (leb t.x col) (ltb col (t.x + t.edge)) a in
-              let c1 : t.x ≤ col = leb-true _ _ cs.0 in
-              let c2 : col < t.x + t.edge = ltb-true _ _ cs.1 in
-              cond-true _ _ _ (and_from _ _ (eq-eqb row (t.y + i) e) a)
-              ∙ is (col - t.x) (omega arith)
-              ∙ ap (λ (q : ℕ). get_or tile (q * t.edge + (col - t.x)) 0) (let z : i ≡ row - t.y = omega arith in z)
-              ∙ sym (cond-true _ _ _ (and_from _ _ a down))
-          go false a =
-              cond-false _ _ _ (and_right (eqb row (t.y + i)) _ a)
-              ∙ part col row hc hr
-              ∙ cond-false _ _ _ (and_left (across col) _ a)
-              ∙ sym (cond-false _ _ _ (and_left (across col) _ a))
-
-      other : (row ≡ t.y + i → ⊥) → cond (on_row t.x (t.y + i) t.edge col row) (get_or row-i (col - t.x) 0) (sample t.size plane col row) ≡ after
-      other ne =
-          cond-false _ _ _ (and_left _ _ (ne_eqb row (t.y + i) ne))
-          ∙ part col row hc hr
-          ∙ ap (λ (b : Bool). cond (across col && (leb t.y row && b)) (get_or tile (offset t col row) 0) (sample t.size old col row)) (⊎_elim
-          (λ (l : row < t.y + i). lt-ltb _ _ l ∙ sym (lt-ltb row (t.y + (i + 1)) (omega arith)))
-          (λ (l : t.y + i ≤ row). le-ltb _ _ l ∙ sym (le-ltb row (t.y + (i + 1)) (omega arith)))
-          (cases_lt row (t.y + i)))
+      let now = written col row hc hr in
+      let before = part col row hc hr in
+      ⊎_elim
+      (λ (e : row ≡ t.y + i).
+      let z : i ≡ row - t.y = omega arith in
+      let here : col - t.x < t.edge → get_or row-i (col - t.x) 0 ≡ get_or tile (offset t col row) 0 =
+      λ h. is (col - t.x) h ∙ ap (λ (q : ℕ). get_or tile (q * t.edge + (col - t.x)) 0) z in
+      grind (arith, nat_tests))
+      (λ (ne : row ≡ t.y + i → ⊥). grind (arith, nat_tests))
+      (cases_eq row (t.y + i))
 
   pub sample_with_tile : (col row : ℕ) → length old ≡ t.size.width * t.size.height → col < t.size.width → row < t.size.height
       → sample t.size (with_tile t tile old) col row ≡ cond (covers t col row) (get_or tile (offset t col row) 0) (sample t.size old col row)

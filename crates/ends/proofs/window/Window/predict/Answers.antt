@@ -1,7 +1,4 @@
-use Rattle.std.proofs.Common.{◌≡◌, ℕ, ◌*◌, List, length, get_or, ap, ◌∙◌, arith, rules, of_calls}
-use Rattle.std.proofs.lemmas.List.FromFn.{fill_by_all}
-use Rattle.std.proofs.lemmas.List.{get_or-replicate}
-use Rattle.ends.specs.Tiles.{prediction}
+use Rattle.std.proofs.Common.{rules, of_calls}
 use Rattle.ends.proofs.window.Window.predict.Goals as goal
 
 pub write_rows-requires : goal.write_rows-requires

@@ -1,6 +1,5 @@
-use Rattle.std.proofs.Common.{◌≡◌, ℕ, ◌+◌, ◌-◌, ◌*◌, ◌<◌, ◌≤◌, List, length, get_or, drop, sym, ap, ◌∙◌, subst, arith, rules}
+use Rattle.std.proofs.Common.{◌≡◌, ℕ, ◌+◌, ◌-◌, ◌*◌, ◌<◌, List, length, get_or, sym, ap, ◌∙◌, subst, arith, rules}
 use Rattle.ends.specs.Tasks.{Tile}
-use Rattle.ends.specs.Planes.{bytes}
 use Rattle.ends.specs.Tiles.{with_tile}
 use Rattle.ends.proofs.Rows.{Within, Part, within_end, row_in, row_holds, rows_end, below_is, part_more, part_all, row_written}
 use Rattle.ends.proofs.window.Window.store.Goals as goal
