@@ -1,5 +1,5 @@
 // The prediction of a tile from its plane, by one of four modes.
-ghost use Rattle.std.specs.Prelude.{◌≡◌, ◌*◌, ◌<◌, ◌≤◌, length, sum as list_sum};
+ghost use Rattle.std.specs.Prelude.{◌≡◌, ◌*◌, ◌<◌, ◌≤◌};
 ghost use Rattle.ends.specs.Tasks.{Bordered};
 ghost use Rattle.ends.specs.Tiles.{above, left, mean as mean_of, prediction};
 
@@ -24,7 +24,7 @@ impl Window<'_> {
             Mode::Colocated => samples.write_rows(move |i, row| {
                 row.copy_from_slice(self.row(tile.x, tile.y + i))
             }),
-            Mode::Vertical => samples.write_rows(move |_i, row| {
+            Mode::Vertical => samples.write_rows(move |_, row| {
                 row.copy_from_slice(self.row(tile.x, tile.y - 1))
             }),
             Mode::Horizontal => samples.write_rows(move |i, row| {
@@ -32,7 +32,7 @@ impl Window<'_> {
             }),
             Mode::Mean => {
                 let mean = self.mean();
-                samples.write_rows(move |_i, row| row.fill(mean))
+                samples.write_rows(move |_, row| row.fill(mean))
             }
         }
         samples
@@ -60,7 +60,8 @@ impl Window<'_> {
         ensures bound { result ≤ 255 * self.now.tile.edge }
     {
         let tile = self.tile;
-        sum(self.row(tile.x, tile.y - 1))
+        let above = self.row(tile.x, tile.y - 1);
+        above.iter().map(|sample| usize::from(*sample)).sum()
     }
 
     // The sum of the samples just left of the tile.
@@ -74,12 +75,4 @@ impl Window<'_> {
             .map(move |i| usize::from(self.sample(tile.x - 1, tile.y + i)))
             .sum()
     }
-}
-
-fn sum(samples: &[u8]) -> usize
-    requires { length samples.now ≤ 16 }
-    ensures value { result ≡ list_sum samples.now }
-    ensures bound { result ≤ 255 * length samples.now }
-{
-    samples.iter().map(|sample| usize::from(*sample)).sum()
 }
