@@ -8,8 +8,8 @@ use crate::samples::{LARGEST, Samples};
 use crate::window::Window;
 
 impl Window<'_> {
-    #[tactic(auto, unfolding(crate::specs::Tiles::prediction))]
     // What a mode predicts for the tile, in memory for the largest.
+    #[tactic(auto, unfolding(crate::specs::Tiles::prediction))]
     pub fn predict<'m>(&self, mode: Mode, memory: &'m mut [u8; LARGEST]) -> Samples<'m>
         requires { Bordered self.now.tile mode }
         ensures values { result.values.now ≡ prediction mode self.now.tile self.now.plane.now }
