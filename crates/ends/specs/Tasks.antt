@@ -17,7 +17,7 @@ pub record Task : Type 0 where
   pub qp : ℕ
 
 -- the tile has an edge up to 16, and lies in its plane
-pub record Lies (t : Tile) : Type 0 where
+pub record Placed (t : Tile) : Type 0 where
   pub right : t.x + t.edge ≤ t.size.width
   pub bottom : t.y + t.edge ≤ t.size.height
   pub some : 0 < t.edge
@@ -31,5 +31,6 @@ lacks_border t Horizontal = t.x == 0
 lacks_border t Mean = false
 
 -- the samples that the mode repeats lie in the plane
-abbrev pub Bordered : Tile → Mode → Type 0
-Bordered t mode = lacks_border t mode ≡ false
+pub record Bordered (t : Tile) (mode : Mode) : Type 0 where
+  pub above : mode ≡ Vertical → 0 < t.y
+  pub left : mode ≡ Horizontal → 0 < t.x

@@ -15,7 +15,7 @@ pub struct Tile {
 }
 
 impl Model for Tile {
-    ghost use Rattle.ends.specs.Tasks.{Tile as Square, Lies};
+    ghost use Rattle.ends.specs.Tasks.{Tile as Square, Placed};
 
     ghost Value = { Square };
 
@@ -23,7 +23,7 @@ impl Model for Tile {
 
     ghost inverse = { λ t. record { size = t.size; x = t.x; y = t.y; edge = t.edge } };
 
-    ghost invariant = { λ t. Lies (record { size = t.size; x = t.x; y = t.y; edge = t.edge }) };
+    ghost invariant = { λ t. Placed (record { size = t.size; x = t.x; y = t.y; edge = t.edge }) };
 }
 
 impl Tile {
