@@ -14,6 +14,7 @@ pub struct Coding {
 
 // What the camera gives out with the levels of a tile; the two make a unit.
 // `number` is the camera's count before the call. A restart has tag 0, no levels, and zeros for its coding.
+// Number and tag stay plain, as the coding does.
 #[derive(Clone, Copy)]
 pub struct Heading {
     pub number: u32,
