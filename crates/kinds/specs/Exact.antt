@@ -1,5 +1,6 @@
 -- The exact kind: the level is the residual.
-use Rattle.std.specs.Prelude.{Bool, true, cond, ◌&&◌, List, [], ◌∷◌, ℤ, pos, negsuc, Some, None, int_le}
+use Rattle.std.specs.Prelude.{Bool, cond, ◌&&◌, List, ℤ, pos, negsuc, Some, None, int_le}
+use Rattle.std.specs.List.{list_all}
 use Rattle.kinds.specs.Meaning.{Meaning}
 
 -- a level that a residual can have: -255..255
@@ -7,8 +8,7 @@ abbrev pub narrow : ℤ → Bool
 narrow level = int_le (negsuc 254) level && int_le level (pos 255)
 
 abbrev pub all_narrow : List ℤ → Bool
-all_narrow [] = true
-all_narrow (level ∷ levels) = narrow level && all_narrow levels
+all_narrow levels = list_all narrow levels
 
 abbrev pub exact : Meaning
 exact = record {
