@@ -7,11 +7,11 @@ use Rattle.std.proofs.lemmas.Nat.{le-div}
 use Rattle.kinds.specs.declared.kind.Sort.{Sort}
 use Rattle.laws.specs.Blocks.{Grid, at, cells, from, block, dot}
 use Rattle.laws.specs.Widths.{largest, held, then}
-use Rattle.laws.specs.Transform.{coefficients, levels, reconstructed}
+use Rattle.laws.specs.Transform.{half_product, coefficients, levels, reconstructed}
 use Rattle.laws.specs.Eight.{forward8, sums8, turns8, results8, pass8, rescale8, eight, distance8}
 use Rattle.laws.proofs.Lists.{Each, each_at}
 use Rattle.laws.proofs.Linear.{scale_is, Floor, shr_is, half_up, plus, minus, dot_is, Near}
-use Rattle.laws.proofs.Sizes.{coefficient_most}
+use Rattle.laws.proofs.Sizes.{product_most, coefficient_most}
 use Rattle.laws.proofs.Inverts.{Inverts}
 use Rattle.laws.proofs.Accepted.{then_out, held_out}
 use Rattle.laws.proofs.Sound.{Sound}
@@ -151,3 +151,7 @@ least (suc (suc g)) = omega arith
 pub small8 : (x : Grid) → ((i j : ℕ) → i < 8 → j < 8 → nat_abs (x i j) ≤ 255) →
     (i j : ℕ) → i < 8 → j < 8 → nat_abs (coefficients eight x i j) ≤ 1044480
 small8 x small = coefficient_most eight reach sound8.reaches x 255 64 least small
+
+pub products8 : (x : Grid) → ((i j : ℕ) → i < 8 → j < 8 → nat_abs (x i j) ≤ 32768) →
+    (i j : ℕ) → i < 8 → j < 8 → nat_abs (half_product eight x i j) ≤ 2097152
+products8 x small = product_most eight reach sound8.reaches x 32768 64 least small

@@ -1,15 +1,15 @@
 -- The transform of 4 by 4 points is sound, and a block comes back within its distance.
 -- Groups of an index: 0 is even, 1 is odd.
-use Rattle.std.proofs.Common.{◌≡◌, ℕ, zero, suc, ◌<◌, ◌≤◌, List, [], ◌∷◌, ℤ, pos, negsuc, ◌-ℤ◌, nat_abs, Some, refl, ap, ◌∙◌, arith, lit<}
+use Rattle.std.proofs.Common.{◌≡◌, ℕ, zero, suc, ◌<◌, ◌≤◌, List, [], ◌∷◌, ℤ, pos, negsuc, ◌-ℤ◌, nat_abs, Some, refl, ap, ◌∙◌, le_trans, arith, lit<, lit≤}
 use borrow.Author.Differences.{ints}
 use Rattle.std.proofs.lemmas.Nat.{le-div}
 use Rattle.kinds.specs.declared.kind.Sort.{Sort}
 use Rattle.laws.specs.Blocks.{Grid, cells, block}
 use Rattle.laws.specs.Widths.{largest, held}
-use Rattle.laws.specs.Transform.{coefficients, levels, reconstructed}
+use Rattle.laws.specs.Transform.{half_product, coefficients, levels, reconstructed}
 use Rattle.laws.specs.Four.{forward4, sums4, results4, pass4, four, distance4}
 use Rattle.laws.proofs.Linear.{shr_is}
-use Rattle.laws.proofs.Sizes.{coefficient_most}
+use Rattle.laws.proofs.Sizes.{product_most, coefficient_most}
 use Rattle.laws.proofs.Inverts.{Inverts}
 use Rattle.laws.proofs.Accepted.{then_out, held_out}
 use Rattle.laws.proofs.Sound.{Sound}
@@ -90,3 +90,7 @@ least (suc g) = omega arith
 pub small4 : (x : Grid) → ((i j : ℕ) → i < 4 → j < 4 → nat_abs (x i j) ≤ 255) →
     (i j : ℕ) → i < 4 → j < 4 → nat_abs (coefficients four x i j) ≤ 9180
 small4 x small = coefficient_most four reach sound4.reaches x 255 6 least small
+
+pub products4 : (x : Grid) → ((i j : ℕ) → i < 4 → j < 4 → nat_abs (x i j) ≤ 32768) →
+    (i j : ℕ) → i < 4 → j < 4 → nat_abs (half_product four x i j) ≤ 2097152
+products4 x small i j hi hj = le_trans (product_most four reach sound4.reaches x 32768 6 least small i j hi hj) (lit≤ tt)

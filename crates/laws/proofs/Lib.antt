@@ -1,6 +1,5 @@
 pub mod Meant
 pub mod Steps
-pub mod Remainders
 pub mod Lists
 pub mod Linear
 pub mod Sizes

@@ -16,6 +16,12 @@ module _ (T : Transform) (reach : ℕ → ℕ) (reaches : Reaches T reach) where
   line_size u n small i h =
       le_trans (dot_size (T.forward i) u (λ _. n) T.points small) (each_at _ T.points (reaches n) i h)
 
+  -- C times a block whose numbers are at most `most`
+  pub product_most : (x : Grid) (most r : ℕ) → ((g : ℕ) → reach g ≤ r) → ((p q : ℕ) → p < T.points → q < T.points → nat_abs (x p q) ≤ most) →
+      (i j : ℕ) → i < T.points → j < T.points → nat_abs (half_product T x i j) ≤ r * most
+  product_most x most r least small i j hi hj =
+      le_trans (line_size (λ p. x p j) most (λ p hp. small p j hp hj) i hi) (mul-le-mul_right most (least (T.group i)))
+
   -- of a block whose numbers are at most `most`
   pub coefficient_size : (x : Grid) (most : ℕ) → ((p q : ℕ) → p < T.points → q < T.points → nat_abs (x p q) ≤ most) →
       (i j : ℕ) → i < T.points → j < T.points → nat_abs (coefficients T x i j) ≤ reach (T.group j) * (reach (T.group i) * most)

@@ -1,7 +1,8 @@
 -- Steps that may be refused: one test over all lines is as good as a test of each.
 use Rattle.std.proofs.Common.{◌≡◌, ℕ, zero, suc, ◌+◌, ◌<◌, ◌≤◌, Bool, true, false, cond, ◌&&◌, List, ◌∷◌, ℤ, ◌≤ℤ◌, Some, None, Option, sym, refl, ap, ◌∙◌, inl, inr, eq-or-lt_of_le, arith, w16, SFits}
+use Rattle.std.proofs.Math.Bool.{and_assoc, and-true}
 use borrow.Author.Differences.{ints}
-use Rattle.laws.specs.Blocks.{row, cells, from, block}
+use Rattle.laws.specs.Blocks.{at, row, cells, from, block}
 use Rattle.laws.specs.Widths.{largest, within, every, fits, held, then, all}
 
 -- ---- tests
@@ -34,8 +35,41 @@ every_swap t i zero j n = every_true j n
 every_swap t i (suc m) j n =
     ap (λ b. every (t i) j n && b) (every_swap t (suc i) m j n) ∙ sym (every_and (t i) (λ b. every (λ a. t a b) (suc i) m) j n)
 
+-- one number more
+pub every_more : (t : ℕ → Bool) (n : ℕ) → every t 0 (n + 1) ≡ (every t 0 n && t n)
+every_more t n =
+    let e : n + 1 ≡ suc n = omega arith in let f : 0 + n ≡ n = omega arith in
+    ap (every t 0) e ∙ go 0 n ∙ ap (λ k. every t 0 n && t k) f
+  where
+    go : (i n : ℕ) → every t i (suc n) ≡ (every t i n && t (i + n))
+    go i zero = let e : i ≡ i + 0 = omega arith in and-true (t i) ∙ ap t e
+    go i (suc n) =
+        let e : suc i + n ≡ i + suc n = omega arith in
+        ap (λ b. t i && b) (go (suc i) n)
+        ∙ sym (and_assoc (t i) (every t (suc i) n) (t (suc i + n)))
+        ∙ ap (λ k. (t i && every t (suc i) n) && t k) e
+
+-- a test of every number below n, at one of them
+pub every_is : (t : ℕ → Bool) (n : ℕ) → every t 0 n ≡ true → (k : ℕ) → k < n → t k ≡ true
+every_is t n e k h = go 0 n e (omega arith) (omega arith)
+  where
+    go : (i n : ℕ) → every t i n ≡ true → i ≤ k → k < i + n → t k ≡ true
+    go i zero e low high = absurd (omega arith)
+    go i (suc n) e low high =
+        let both = split _ _ e in
+        elim (eq-or-lt_of_le low) [
+          | inl here ↦ ap t (sym here) ∙ both.0
+          | inr after ↦ go (suc i) n both.1 (omega arith) (omega arith)
+        ]
+
 pub within_fits : (most z : ℤ) → most ≤ℤ largest → within most z ≡ true → SFits w16 z
 within_fits most z l e = grind (arith, ints)
+
+-- the numbers of a block whose lines fit have 16 bits
+pub fit_short : (n : ℕ) (most : ℤ) (m : List (List ℤ)) → most ≤ℤ largest → every (λ i. fits n most (row m i)) 0 n ≡ true
+    → (i : ℕ) → i < n → (j : ℕ) → j < n → SFits w16 (at (row m i) j)
+fit_short n most m l e i hi j hj =
+    within_fits most _ l (every_is (λ j. within most (at (row m i) j)) n (every_is (λ i. fits n most (row m i)) n e i hi) j hj)
 
 -- ---- steps
 

@@ -1,5 +1,5 @@
 -- The facts of a kind whose tile is one block of a transform, from the error limit of the transform.
-use Rattle.std.proofs.Common.{◌≡◌, ℕ, ◌*◌, ◌/◌, ◌%◌, ◌<◌, ◌≤◌, List, length, ℤ, ◌-ℤ◌, nat_abs, Some, sym, refl, ap, ◌∙◌, subst₂, inl, inr, arith, lit≤}
+use Rattle.std.proofs.Common.{◌≡◌, ℕ, ◌*◌, ◌/◌, ◌%◌, ◌<◌, ◌≤◌, ◌⊎◌, List, length, ℤ, ◌-ℤ◌, nat_abs, Some, sym, refl, ap, ◌∙◌, subst, subst₂, inl, inr, arith, lit≤}
 use Rattle.std.proofs.lemmas.Int.{ints}
 use Rattle.kinds.specs.declared.kind.Sort.{Sort}
 use Rattle.kinds.specs.Meaning.{Facts, Differences, Near}
@@ -7,7 +7,7 @@ use Rattle.laws.specs.Blocks.{Grid, at, cells, block, tile, row_by_row}
 use Rattle.laws.specs.Transform.{Transform, coefficients, levels, reconstructed}
 use Rattle.laws.specs.Four.{four, distance4}
 use Rattle.laws.specs.Eight.{eight, distance8}
-use Rattle.laws.specs.Transformed.{tile_levels, tile_residual, p4, p8}
+use Rattle.laws.specs.Transformed.{tile_levels, tile_residual, block_kind, p4, p8}
 use Rattle.laws.proofs.Accepted.{then_out, some_same}
 use Rattle.laws.proofs.Lists.{length_from, at_from, block_same}
 use Rattle.laws.proofs.Four.{near4}
@@ -50,20 +50,30 @@ module _ (T : Transform) (distance : ℕ → Sort → ℕ)
       let coded_is : at residual k ≡ x (k / n) (k % n) = ap (at residual) (sym (place_is n k)) in
       close _ _ _ (subst₂ (λ a b. nat_abs (a -ℤ b) ≤ distance qp sort) (sym rebuilt_is) (sym coded_is) limit)
 
+  pub block_facts : (tag : ℕ) → (n ≡ 4) ⊎ ((n ≡ 8) ⊎ (n ≡ 16)) → 1 ≤ tag → tag ≤ 63 → Facts (block_kind T tag distance)
+  block_facts tag edges low high = record {
+    edges = edges;
+    tag_low = low;
+    tag_high = high;
+    level_count = λ qp sort residual _ _ _. tile_count qp sort residual;
+    near = tile_near;
+  }
+
+-- that a block of n by n comes back within its distance
+abbrev pub ComesBack : Transform → (distance : ℕ → Sort → ℕ) → (n : ℕ) → Type 0
+ComesBack T distance n = (qp : ℕ) (sort : Sort) (x : Grid) (r : List (List ℤ)) → qp ≤ 51
+    → ((i j : ℕ) → i < n → j < n → nat_abs (x i j) ≤ 255)
+    → reconstructed T qp (block n (levels T qp sort (coefficients T x))) ≡ Some r
+    → (p q : ℕ) → p < n → q < n → nat_abs (cells r p q -ℤ x p q) ≤ distance qp sort
+
+-- the facts, for a transform of n points
+pub kind_facts : (T : Transform) (distance : ℕ → Sort → ℕ) (tag n : ℕ) → T.points ≡ n → ComesBack T distance n
+    → (n ≡ 4) ⊎ ((n ≡ 8) ⊎ (n ≡ 16)) → 1 ≤ tag → tag ≤ 63 → Facts (block_kind T tag distance)
+kind_facts T distance tag n points near edges low high =
+    block_facts T distance (subst (ComesBack T distance) (sym points) near) tag (subst (λ n. (n ≡ 4) ⊎ ((n ≡ 8) ⊎ (n ≡ 16))) (sym points) edges) low high
+
 pub p4_facts : Facts p4
-p4_facts = record {
-  edges = inl refl;
-  tag_low = lit≤ tt;
-  tag_high = lit≤ tt;
-  level_count = λ qp sort residual low long small. tile_count four distance4 near4 qp sort residual;
-  near = tile_near four distance4 near4;
-}
+p4_facts = block_facts four distance4 near4 1 (inl refl) (lit≤ tt) (lit≤ tt)
 
 pub p8_facts : Facts p8
-p8_facts = record {
-  edges = inr (inl refl);
-  tag_low = lit≤ tt;
-  tag_high = lit≤ tt;
-  level_count = λ qp sort residual low long small. tile_count eight distance8 near8 qp sort residual;
-  near = tile_near eight distance8 near8;
-}
+p8_facts = block_facts eight distance8 near8 2 (inr (inl refl)) (lit≤ tt) (lit≤ tt)

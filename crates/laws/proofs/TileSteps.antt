@@ -13,7 +13,7 @@ module _ (T : Transform) where
   abbrev n : ℕ
   n = T.points
 
-  coefficients_same : (x y : Grid) → ((i j : ℕ) → i < n → j < n → x i j ≡ y i j) → (i j : ℕ) → i < n → j < n → coefficients T x i j ≡ coefficients T y i j
+  pub coefficients_same : (x y : Grid) → ((i j : ℕ) → i < n → j < n → x i j ≡ y i j) → (i j : ℕ) → i < n → j < n → coefficients T x i j ≡ coefficients T y i j
   coefficients_same x y same i j hi hj =
       ap (dot (T.forward j)) (from_same (half_product T x i) (half_product T y i) n
       (λ q hq. ap (dot (T.forward i)) (from_same (λ p. x p q) (λ p. y p q) n (λ p hp. same p q hp hq))))

@@ -16,8 +16,12 @@ tile_levels T qp sort residual = row_by_row T.points (levels T qp sort (coeffici
 unfoldable pub tile_residual : Transform → (qp : ℕ) → List ℤ → Option (List ℤ)
 tile_residual T qp ls = then (reconstructed T qp (block T.points (tile T.points ls))) (λ r. Some (row_by_row T.points (cells r)))
 
+-- the kind of a transform, by its tag and its distance
+abbrev pub block_kind : Transform → (tag : ℕ) → (distance : ℕ → Sort → ℕ) → Meaning
+block_kind T tag distance = record { edge = T.points; tag = tag; levels = tile_levels T; reconstruction = tile_residual T; distance = distance }
+
 abbrev pub p4 : Meaning
-p4 = record { edge = 4; tag = 1; levels = tile_levels four; reconstruction = tile_residual four; distance = distance4 }
+p4 = block_kind four 1 distance4
 
 abbrev pub p8 : Meaning
-p8 = record { edge = 8; tag = 2; levels = tile_levels eight; reconstruction = tile_residual eight; distance = distance8 }
+p8 = block_kind eight 2 distance8
