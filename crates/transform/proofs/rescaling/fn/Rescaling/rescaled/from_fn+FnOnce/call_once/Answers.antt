@@ -1,0 +1,6 @@
+use Rattle.std.proofs.Common.{◌∙◌, w32, rules}
+use Rattle.std.proofs.lemmas.Int.{to_z-of_z}
+use Rattle.transform.proofs.rescaling.fn.Rescaling.rescaled.from_fn+FnOnce.call_once.Goals as goal
+
+pub returns : goal.returns
+returns g c = (c.from_fn.new.arg1, (search rules, to_z-of_z w32 c.from_fn.result (search rules) ∙ c.from_fn.ensures))

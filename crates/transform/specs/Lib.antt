@@ -1,0 +1,4 @@
+pub mod Columns
+pub mod Pattern
+pub mod Passes
+pub mod Inner
