@@ -1,11 +1,10 @@
-// The kinds whose tile is one block of a transform: it turns the residual of a tile into levels and back.
-// p4 and p8: one block of the 4 by 4 or the 8 by 8 transform. block: a tile as rows by value.
+// The kinds whose tile is one block of a transform: P4 and P8.
+// one_block: which transforms make a kind, by their tags. block_kind: the kind of any of them.
 // They know nothing of planes, counts or headings.
 #![tactic(auto)]
 
-mod block;
-mod p4;
-mod p8;
+mod block_kind;
+mod one_block;
 
-pub use p4::P4;
-pub use p8::P8;
+pub use block_kind::{BlockKind, P4, P8, p4, p8};
+pub use one_block::OneBlock;

@@ -1,13 +1,9 @@
 -- The fast forward steps are the matrix product.
-use Rattle.std.proofs.Common.{◌≡◌, ℕ, zero, suc, ◌*◌, ◌%◌, ◌<◌, ◌≤◌, List, [], ◌∷◌, ℤ, ◌+ℤ◌, ◌-ℤ◌, nat_abs, ap, ◌∙◌, le_trans, arith, lit<, lit≤}
+use Rattle.std.proofs.Common.{◌≡◌, ℕ, List, [], ◌∷◌, ℤ, ◌+ℤ◌, ◌-ℤ◌, ap, ◌∙◌, arith}
 use borrow.Author.Differences.{ints}
-use Rattle.laws.specs.Blocks.{at, row, cells, from, block, dot}
+use Rattle.laws.specs.Blocks.{at, cells, from, dot}
 use Rattle.laws.specs.Transform.{half_product}
 use Rattle.laws.specs.Four.{four, forward4}
-use Rattle.laws.proofs.Sizes.{line_size}
-use Rattle.laws.proofs.Four.{reach, sound4}
-use Rattle.transform4.specs.Inner.{Each, Sized}
-use Rattle.transform4.proofs.FourLanes.{each, each_at}
 
 abbrev line : (a b c d : ℤ) → List ℤ
 line a b c d = a ∷ b ∷ c ∷ d ∷ []
@@ -52,17 +48,3 @@ module _ (x : List (List ℤ)) where
       ap (λ w. from (λ q. at d03 q -ℤ at w q) 0 4) e
       ∙ (λ t. from (λ q. at (a t) q -ℤ (at (b t) q +ℤ at (b t) q)) 0 4)
       ∙ (λ t. from (λ q. fast3 (cells x 0 q) (cells x 1 q) (cells x 2 q) (cells x 3 q) t) 0 4)
-
--- the first pass leaves room for the second
-reach_most : (g : ℕ) → reach g * 32768 ≤ 262144
-reach_most zero = lit≤ tt
-reach_most (suc g) = lit≤ tt
-
-pub columns_sized : (x : List (List ℤ)) → Each (λ i. Sized 32768 (row x i)) → Each (λ i. Sized 262144 (row (block 4 (half_product four (cells x))) i))
-columns_sized x p =
-    let small : (i q : ℕ) → i < 4 → q < 4 → nat_abs (cells x i q) ≤ 32768 =
-    λ i q hi hq. each_at (λ q. nat_abs (cells x i q) ≤ 32768) (each_at (λ i. Sized 32768 (row x i)) p i hi) q hq in
-    let size : (i q : ℕ) → i < 4 → q < 4 → nat_abs (half_product four (cells x) i q) ≤ 262144 =
-    λ i q hi hq. le_trans (line_size four reach sound4.reaches (λ k. cells x k q) 32768 (λ k hk. small k q hk hq) i hi) (reach_most (i % 2)) in
-    let line : (i : ℕ) → i < 4 → Each (λ q. nat_abs (half_product four (cells x) i q) ≤ 262144) = λ i hi. each (λ q. nat_abs (half_product four (cells x) i q) ≤ 262144) (λ q hq. size i q hi hq) in
-    (line 0 (lit< tt), line 1 (lit< tt), line 2 (lit< tt), line 3 (lit< tt))

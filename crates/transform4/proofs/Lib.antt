@@ -1,4 +1,4 @@
 pub mod FourLanes
 pub mod FourPass
 pub mod FourForward
-pub mod FourRows
+pub mod Classes

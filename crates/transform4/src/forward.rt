@@ -1,22 +1,26 @@
-// The forward transform: the coefficients C X Cᵀ of a block, by sums and differences.
+// The forward pass, by sums and differences.
 ghost use Rattle.std.specs.Prelude.{◌≡◌};
 ghost use Rattle.laws.specs.Blocks.{row, cells, block};
-ghost use Rattle.laws.specs.Transform.{coefficients, half_product};
+ghost use Rattle.laws.specs.Transform.{half_product};
 ghost use Rattle.laws.specs.Four.{four};
+ghost use Rattle.transform.specs.Passes.{products};
+ghost use Rattle.transform.specs.Inner.{Sized as SizedBlock};
 ghost use Rattle.transform4.specs.Inner.{Each, Sized};
 
-use crate::lanes::{difference, sum, transposed, widened};
+use crate::lanes::{difference, sum};
+use transform::transposed;
 
-pub fn forward_transform(residual: [[i16; 4]; 4]) -> [[i32; 4]; 4]
-    ensures { result ≡ block 4 (coefficients four (cells residual)) }
+// C times each column, as a row.
+pub fn multiply_columns(x: [[i32; 4]; 4]) -> [[i32; 4]; 4]
+    requires { SizedBlock 4 2097152 x }
+    ensures { result ≡ products four x }
 {
-    let columns = forward_columns(widened(residual));
-    transposed(forward_columns(transposed(columns)))
+    transposed(forward_columns(x))
 }
 
-// C times each column: sij and dij are the sum and the difference of the inputs i and j.
+// C times each column, in its place: sij and dij are the sum and the difference of the inputs i and j.
 fn forward_columns(x: [[i32; 4]; 4]) -> [[i32; 4]; 4]
-    requires { Each (λ i. Sized 262144 (row x i)) }
+    requires { Each (λ i. Sized 2097152 (row x i)) }
     ensures { result ≡ block 4 (half_product four (cells x)) }
 {
     let [x0, x1, x2, x3] = x;

@@ -1,15 +1,13 @@
 -- The fast forward steps are the matrix product, and leave room for one another.
-use Rattle.std.proofs.Common.{◌≡◌, ℕ, zero, suc, ◌*◌, ◌%◌, ◌<◌, ◌≤◌, List, [], ◌∷◌, ℤ, pos, negsuc, ◌*ℤ◌, nat_abs, ap, ◌∙◌, le_trans, arith, lit<, lit≤}
+use Rattle.std.proofs.Common.{◌≡◌, ℕ, ◌<◌, ◌≤◌, List, [], ◌∷◌, ℤ, pos, negsuc, ◌*ℤ◌, nat_abs, ap, ◌∙◌, arith}
 use borrow.Author.Differences.{ints, same_in}
-use Rattle.laws.specs.Blocks.{at, row, cells, from, column, dot}
-use Rattle.laws.specs.Transform.{half_product}
-use Rattle.laws.specs.Eight.{eight, forward8, group8}
+use Rattle.laws.specs.Blocks.{at, cells, from, column, dot}
+use Rattle.laws.specs.Eight.{forward8}
 use Rattle.laws.proofs.Linear.{dot_is}
 use Rattle.laws.proofs.Meant.{Meant, kept, known, product}
-use Rattle.laws.proofs.Sizes.{line_size}
-use Rattle.laws.proofs.Eight.{reach, sound8}
-use Rattle.transform8.specs.Inner.{Each, Sized, Sized4, mirror_sums, mirror_differences, forward_columns}
-use Rattle.transform8.proofs.EightLines.{each, each_at}
+use Rattle.transform.specs.Inner.{Sized as SizedBlock}
+use Rattle.transform8.specs.Inner.{Sized, Sized4, mirror_sums, mirror_differences}
+use Rattle.transform8.proofs.EightLines.{each}
 
 -- ---- each row of C, by its left half
 
@@ -62,23 +60,6 @@ module _ (x c : List ℤ) (p : Sized4 4194304 x) (q : Sized4 12 c) where
   pub product3 : Meant (kept (at c 3) *ℤ kept (at x 3)) (at c 3 *ℤ at x 3) 50331648
   product3 = product (known (at c 3) 12 q.3 tt) (known (at x 3) 4194304 p.3 tt)
 
--- ---- sizes
-
-reach_most : (g : ℕ) → reach g * 32768 ≤ 2097152
-reach_most zero = lit≤ tt
-reach_most (suc zero) = lit≤ tt
-reach_most (suc (suc g)) = lit≤ tt
-
-cell_size : (n : ℕ) (x : List (List ℤ)) → Each (λ i. Sized n (row x i)) → (i j : ℕ) → i < 8 → j < 8 → nat_abs (cells x i j) ≤ n
-cell_size n x p i j hi hj = each_at (λ j. nat_abs (cells x i j) ≤ n) (each_at (λ i. Sized n (row x i)) p i hi) j hj
-
-pub column_sized : (n : ℕ) (x : List (List ℤ)) → Each (λ i. Sized n (row x i)) → (j : ℕ) → j < 8 → Sized n (column 8 x j)
-column_sized n x p j hj = each (λ i. nat_abs (cells x i j) ≤ n) (λ i hi. cell_size n x p i j hi hj)
-
--- the first pass leaves room for the second
-pub products_sized : (x : List (List ℤ)) → Each (λ i. Sized 32768 (row x i)) → Each (λ j. Sized 2097152 (row (forward_columns x) j))
-products_sized x p =
-    let size : (j : ℕ) → j < 8 → Each (λ i. nat_abs (half_product eight (cells x) i j) ≤ 2097152) =
-    λ j hj. each (λ i. nat_abs (half_product eight (cells x) i j) ≤ 2097152)
-    (λ i hi. le_trans (line_size eight reach sound8.reaches (λ k. cells x k j) 32768 (λ k hk. cell_size 32768 x p k j hk hj) i hi) (reach_most (group8 (i % 4)))) in
-    (size 0 (lit< tt), size 1 (lit< tt), size 2 (lit< tt), size 3 (lit< tt), size 4 (lit< tt), size 5 (lit< tt), size 6 (lit< tt), size 7 (lit< tt))
+-- a column of a block is a line
+pub column_sized : (n : ℕ) (x : List (List ℤ)) → SizedBlock 8 n x → (j : ℕ) → j < 8 → Sized n (column 8 x j)
+column_sized n x small j hj = each (λ i. nat_abs (cells x i j) ≤ n) (λ i hi. small i j hi hj)

@@ -1,7 +1,6 @@
 -- Lines of eight numbers: what is computed of them, their tests, and proofs about each of the eight.
-use Rattle.std.proofs.Common.{◌≡◌, ℕ, zero, suc, ◌<◌, ◌≤◌, Bool, true, ◌&&◌, List, [], ◌∷◌, ℤ, nat_abs, ◌≤ℤ◌, refl, arith, lit<, w16, SFits}
-use mathlib.Core.Bool.{and_assoc, and-true}
-use Rattle.laws.specs.Blocks.{at, row}
+use Rattle.std.proofs.Common.{◌≡◌, ℕ, zero, suc, ◌<◌, ◌≤◌, Bool, true, List, [], ◌∷◌, ℤ, nat_abs, ◌≤ℤ◌, refl, arith, lit<, w16, SFits}
+use Rattle.laws.specs.Blocks.{at}
 use Rattle.laws.specs.Widths.{largest, within, every, fits}
 use Rattle.laws.proofs.Meant.{Meant, Small, kept, known, cons}
 use Rattle.laws.proofs.Steps.{split, within_fits}
@@ -32,12 +31,6 @@ line d n p s =
     let one : (i : ℕ) → i < 8 → Meant (kept (at d i)) (at d i) n = λ i h. known (at d i) n (each_at (λ i. nat_abs (at d i) ≤ n) p i h) s in
     each (λ i. Meant (kept (at d i)) (at d i) n) one
 
--- tests joined with &, as the code has them and as the definitions have them
-pub and8 : {a b c d e f g h a' b' c' d' e' f' g' h' : Bool}
-    → a ≡ a' → b ≡ b' → c ≡ c' → d ≡ d' → e ≡ e' → f ≡ f' → g ≡ g' → h ≡ h'
-    → (a && b && c && d && e && f && g && h) ≡ (a' && (b' && (c' && (d' && (e' && (f' && (g' && (h' && true))))))))
-and8 p q r s t u v w = simp (p, q, r, s, t, u, v, w, and_assoc, and-true)
-
 -- a test of eight places, at one of them
 pub every_at : (t : ℕ → Bool) → every t 0 8 ≡ true → (i : ℕ) → i < 8 → t i ≡ true
 every_at t e =
@@ -47,7 +40,3 @@ every_at t e =
 
 pub line_short : (most : ℤ) (d : List ℤ) → most ≤ℤ largest → fits 8 most d ≡ true → Short d
 line_short most d l f = each (λ i. SFits w16 (at d i)) (λ i h. within_fits most (at d i) l (every_at (λ i. within most (at d i)) f i h))
-
-pub block_short : (m : List (List ℤ)) → every (λ i. fits 8 largest (row m i)) 0 8 ≡ true → Each (λ i. Short (row m i))
-block_short m f =
-    each (λ i. Short (row m i)) (λ i h. line_short largest (row m i) (record { le = tt }) (every_at (λ i. fits 8 largest (row m i)) f i h))

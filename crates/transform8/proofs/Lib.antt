@@ -1,4 +1,5 @@
 pub mod EightLines
 pub mod EightPass
 pub mod EightForward
-pub mod EightRows
+pub mod Classes
+pub mod Rescaling

@@ -1,9 +1,8 @@
--- What inner functions ask of their callers and tell them: sizes of lines, and passes over columns.
-use Rattle.std.specs.Prelude.{ℕ, zero, suc, ◌-◌, ◌*◌, ◌^◌, ◌≤◌, List, [], ◌∷◌, ℤ, ◌+ℤ◌, ◌-ℤ◌, Option, FitsSigned, slice_index, unsigned_abs}
+-- What inner functions ask of their callers and tell them: sizes of lines, sums of a line, numbers by class.
+use Rattle.std.specs.Prelude.{ℕ, ◌-◌, ◌*◌, ◌^◌, ◌≤◌, List, [], ◌∷◌, ℤ, ◌+ℤ◌, ◌-ℤ◌, FitsSigned, slice_index, unsigned_abs}
 use Rattle.std.specs.Int.{w16}
-use Rattle.laws.specs.Blocks.{at, from, column, dot}
-use Rattle.laws.specs.Widths.{all}
-use Rattle.laws.specs.Eight.{forward8, pass8}
+use Rattle.laws.specs.Blocks.{at, from, dot}
+use Rattle.laws.specs.Eight.{forward8}
 
 abbrev pub Each : (ℕ → Type 0) → Type 0
 Each P = P 0 × P 1 × P 2 × P 3 × P 4 × P 5 × P 6 × P 7
@@ -15,10 +14,6 @@ Sized n d = Each (λ i. unsigned_abs (at d i) ≤ n)
 -- eight numbers of 16 bits
 abbrev pub Short : List ℤ → Type 0
 Short d = Each (λ i. FitsSigned w16 (at d i))
-
--- every column passed, as a row, where a result may be as large as `most`
-abbrev pub passed_columns : (most : ℤ) → List (List ℤ) → Option (List (List ℤ))
-passed_columns most m = all (from (λ j. pass8 most (column 8 m j)) 0 8)
 
 -- four numbers, each at most n in size
 abbrev pub Sized4 : ℕ → List ℤ → Type 0
@@ -35,17 +30,11 @@ mirror_differences x = (at x 0 -ℤ at x 7) ∷ (at x 1 -ℤ at x 6) ∷ (at x 2
 abbrev pub forward_line : List ℤ → List ℤ
 forward_line x = from (λ i. dot (forward8 i) (from (at x) 0 8)) 0 8
 
--- C times every column, as a row
-abbrev pub forward_columns : List (List ℤ) → List (List ℤ)
-forward_columns m = from (λ j. forward_line (column 8 m j)) 0 8
-
--- of three values, by the group of the place
-abbrev pub by_group : {A : Type 0} → (a b c : A) → ℕ → A
-by_group a b c zero = a
-by_group a b c (suc zero) = b
-by_group a b c (suc (suc zero)) = c
-by_group a b c (suc (suc (suc zero))) = b
-by_group a b c (suc (suc (suc (suc j)))) = by_group a b c j
+-- numbers by class, by place
+abbrev pub pattern : (aa bb cc ab ac bc : ℕ) → List (List ℕ)
+pattern aa bb cc ab ac bc =
+    let a = aa ∷ ab ∷ ac ∷ ab ∷ [] in let b = ab ∷ bb ∷ bc ∷ bb ∷ [] in let c = ac ∷ bc ∷ cc ∷ bc ∷ [] in
+    a ∷ b ∷ c ∷ b ∷ []
 
 -- six numbers, each at most n
 abbrev pub Below6 : ℕ → List ℕ → Type 0

@@ -1,39 +1,26 @@
-// The forward transform: the coefficients C X Cᵀ of a block.
-// Each row of C is its own mirror image, or minus it, so that half of its products do on sums or differences of opposite inputs.
+// The forward pass. Each row of C is its own mirror image, or minus it, so that half of its products do on sums or
+// differences of opposite inputs.
 ghost use Rattle.std.specs.Prelude.{◌≡◌, ◌<◌};
-ghost use Rattle.laws.specs.Blocks.{at, from, row, cells, block, column as column_of, dot as dot_of};
-ghost use Rattle.laws.specs.Transform.{coefficients};
+ghost use Rattle.laws.specs.Blocks.{at, from, column as column_of, dot as dot_of};
 ghost use Rattle.laws.specs.Eight.{eight};
-ghost use Rattle.transform8.specs.Inner.{Each, Sized, Sized4, mirror_sums, mirror_differences, forward_line, forward_columns};
+ghost use Rattle.transform.specs.Passes.{products};
+ghost use Rattle.transform.specs.Inner.{Sized as SizedBlock};
+ghost use Rattle.transform8.specs.Inner.{Sized, Sized4, mirror_sums, mirror_differences, forward_line};
 
-use crate::lines::widened;
+use std::array;
+use transform::column;
 
-pub fn forward_transform(residual: [[i16; 8]; 8]) -> [[i32; 8]; 8]
-    ensures { result ≡ block 8 (coefficients eight (cells residual)) }
+// C times each column, as a row.
+pub fn multiply_columns(x: [[i32; 8]; 8]) -> [[i32; 8]; 8]
+    requires { SizedBlock 8 2097152 x }
+    ensures { result ≡ products eight x }
 {
-    forward_columns(forward_columns(widened(residual)))
-}
-
-// C times each column, as a row of the result. Done twice, this puts each row in its place again.
-fn forward_columns(x: [[i32; 8]; 8]) -> [[i32; 8]; 8]
-    requires { Each (λ i. Sized 2097152 (row x i)) }
-    ensures { result ≡ forward_columns x }
-{
-    let mut products = [[0i32; 8]; 8];
-    for j in 0..8 {
-        let line = forward_line(column(&x, j));
-        products[j] = line;
-    }
-    products
-}
-
-fn column(m: &[[i32; 8]; 8], j: usize) -> [i32; 8]
-    requires { j < 8 }
-    ensures { result ≡ column_of 8 m.now j }
-{
-    [
-        m[0][j], m[1][j], m[2][j], m[3][j], m[4][j], m[5][j], m[6][j], m[7][j],
-    ]
+    array::from_fn(
+        |j|
+            requires { (j < 8) × Sized 2097152 (column_of 8 x j) }
+            ensures { result ≡ forward_line (column_of 8 x j) }
+        { forward_line(column(&x, j)) },
+    )
 }
 
 // C times a line, by the left half of C.

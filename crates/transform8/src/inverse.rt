@@ -1,29 +1,18 @@
-// The inverse transform: all rows pass, then all columns, then the last rounding.
+// The inverse pass over columns.
 // A line has no exit of its own: its sums cannot wrap in 32 bits, and all of them are tested once at the end of the pass.
-ghost use Rattle.std.specs.Prelude.{◌≡◌, pos, ◌+ℤ◌, ◌≤ℤ◌, if◌then◌else◌, Some, None};
-ghost use Rattle.std.specs.Int.Signed.{shr_z};
-ghost use Rattle.laws.specs.Blocks.{at, from};
+ghost use Rattle.std.specs.Prelude.{◌≡◌, ◌≤ℤ◌, if◌then◌else◌, Some, None};
 ghost use Rattle.laws.specs.Widths.{largest};
-ghost use Rattle.laws.specs.Transform.{rounded, inverse};
 ghost use Rattle.laws.specs.Eight.{eight, sums8, turns8, results8, pass8};
-ghost use Rattle.transform8.specs.Inner.{Sized, passed_columns};
+ghost use Rattle.transform.specs.Passes.{passed};
+ghost use Rattle.transform8.specs.Inner.{Sized};
 
-use crate::lines::{column, line_fits, shortened, transposed, wide};
+use transform::{column, line_fits, shortened, wide};
 
-// The residual of rescaled levels, or a refusal where a number leaves its width.
-pub fn inverse_transform(rescaled: [[i16; 8]; 8]) -> Option<[[i16; 8]; 8]>
-    ensures { result ≡ inverse eight rescaled }
-{
-    let rows = pass_columns::<32767>(transposed(rescaled))?;
-    let columns = pass_columns::<32735>(rows)?;
-    Some(round(transposed(columns)))
-}
-
-// Every column passed, as a row of the result. MOST is the largest result allowed: 32767 for a row, 32735 for a column,
-// to which the last rounding adds 32. As a constant it gives each pass an instance of its own, which is inlined.
-fn pass_columns<const MOST: i32>(m: [[i16; 8]; 8]) -> Option<[[i16; 8]; 8]>
+// Every column passed, as a row. MOST is the largest result allowed. As a constant it gives each pass an instance of
+// its own, which is inlined.
+pub fn pass_columns<const MOST: i32>(m: [[i16; 8]; 8]) -> Option<[[i16; 8]; 8]>
     requires { MOST ≤ℤ largest }
-    ensures { result ≡ passed_columns MOST m }
+    ensures { result ≡ passed eight MOST m }
 {
     let mut passed = [[0i32; 8]; 8];
     let mut fits = true;
@@ -51,7 +40,7 @@ fn pass_line<const MOST: i32>(d: [i16; 8]) -> Line
     let g = results(f);
     Line {
         values: g,
-        fits: line_fits::<32767>(e) & line_fits::<32767>(f) & line_fits::<MOST>(g),
+        fits: line_fits(&e, 32767) & line_fits(&f, 32767) & line_fits(&g, MOST),
     }
 }
 
@@ -109,43 +98,4 @@ fn results(f: [i32; 8]) -> [i32; 8]
         f2 - f5,
         f0 - f7,
     ]
-}
-
-// (h + 32) >> 6, of each number
-fn round(h: [[i16; 8]; 8]) -> [[i16; 8]; 8]
-    ensures { result ≡ rounded eight h }
-{
-    let [a, b, c, d, e, f, g, h] = h;
-    [
-        round_row(a),
-        round_row(b),
-        round_row(c),
-        round_row(d),
-        round_row(e),
-        round_row(f),
-        round_row(g),
-        round_row(h),
-    ]
-}
-
-fn round_row(h: [i16; 8]) -> [i16; 8]
-    ensures { result ≡ from (λ j. shr_z (at h j +ℤ pos 32) 64) 0 8 }
-{
-    let [a, b, c, d, e, f, g, h] = h;
-    [
-        round_one(a),
-        round_one(b),
-        round_one(c),
-        round_one(d),
-        round_one(e),
-        round_one(f),
-        round_one(g),
-        round_one(h),
-    ]
-}
-
-fn round_one(h: i16) -> i16
-    ensures { result ≡ shr_z (h +ℤ pos 32) 64 }
-{
-    ((h as i32 + 32) >> 6) as i16
 }

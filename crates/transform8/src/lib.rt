@@ -1,17 +1,11 @@
-// The 8 by 8 transform with its quantiser: from a residual to levels, and from levels back to a residual.
-// Each public function is one step over a whole block, equal to the step of the same name in the crate `laws`.
-// Inside a step numbers have 32 bits; between steps a block is an array of rows by value.
+// The 8 by 8 transform, as one of the transforms that the crate `transform` takes through its steps.
+// eight: the transform. tables: its multipliers, factors and classes. forward and inverse: its passes,
+// a column at a time.
 #![tactic(auto)]
 
-mod distance_limit;
+mod eight;
 mod forward;
 mod inverse;
-mod lines;
-mod quantiser;
-mod rescaling;
+mod tables;
 
-pub use distance_limit::distance;
-pub use forward::forward_transform;
-pub use inverse::inverse_transform;
-pub use quantiser::quantise;
-pub use rescaling::rescale;
+pub use eight::Eight;

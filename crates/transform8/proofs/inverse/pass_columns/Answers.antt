@@ -1,6 +1,8 @@
-use Rattle.std.proofs.Common.{Some, sym, refl, ap, ◌∙◌}
-use Rattle.laws.specs.Blocks.{column}
+use Rattle.std.proofs.Common.{Some, pos, sym, refl, ap, ◌∙◌, w16, SFits, rules}
+use Rattle.laws.specs.Blocks.{at, row, column}
 use Rattle.laws.specs.Eight.{pass8}
+use Rattle.transform8.specs.Inner.{Short}
+use Rattle.transform8.proofs.EightLines.{each_at}
 use Rattle.transform8.proofs.EightPass.{done_none, done_more, done_refused, all_short, all_passed}
 use Rattle.transform8.proofs.inverse.pass_columns.Goals as goal
 
@@ -9,10 +11,11 @@ loop-j-init g c = done_none 8 _ _ refl
 
 pub loop-j-preserved : goal.loop-j-preserved
 loop-j-preserved g c =
-    done_more 8 _ _ _ _ _ c.loop-j.j c.loop-j-test.true (c.pass_line-line.ensures ∙ ap (pass8 _) c.column.ensures) c.loop-j.invariant
+    done_more 8 _ _ _ _ _ c.loop-j.j c.loop-j-test.true (c.pass_line-line.ensures ∙ ap (pass8 _) (c.column.ensures (pos 0))) c.loop-j.invariant
 
 pub shortened-requires : goal.shortened-requires
-shortened-requires g c = all_short _ c.requires (column 8 c.args.m) c.loop-j.invariant c.if-fits.true c.loop-j-test.false
+shortened-requires g c = let short = all_short _ c.requires (column 8 c.args.m) c.loop-j.invariant c.if-fits.true c.loop-j-test.false in
+    (search rules, (search rules, (search rules, (search rules, (search rules, λ i hi j hj. each_at (λ j. SFits w16 (at (row c.loop-j.passed i) j)) (each_at (λ i. Short (row c.loop-j.passed i)) short i hi) j hj)))))
 
 pub returns-then-fits : goal.returns-then-fits
 returns-then-fits g c =

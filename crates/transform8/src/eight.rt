@@ -1,0 +1,85 @@
+// The transform of 8 by 8 points.
+ghost use Rattle.std.specs.Prelude.{◌≡◌, refl};
+ghost use Rattle.std.proofs.Common.{lit≤};
+ghost use Rattle.laws.specs.Widths.{largest, largest_column};
+ghost use Rattle.laws.specs.Eight.{eight, distance8};
+ghost use Rattle.laws.proofs.Eight.{products8, small8, near8};
+ghost use Rattle.transform.specs.Passes.{products, passed};
+ghost use Rattle.transform.specs.Inner.{Sized};
+
+use crate::forward::multiply_columns;
+use crate::inverse::pass_columns;
+use crate::tables::{half_of, multipliers, pattern, steps, weighed_factors};
+use kinds::{Qp, Sort};
+use laws::error_sixths;
+use transform::{Rescaling, Transform};
+
+#[derive(Clone, Copy)]
+pub struct Eight;
+
+impl Transform<8> for Eight {
+    ghost transform = { eight };
+
+    ghost limit = { distance8 };
+
+    ghost most = { 1044480 };
+
+    ghost SHIFT = { 22 };
+
+    const SHIFT: u32 = 22;
+
+    fn multipliers(qp: Qp) -> [[u32; 4]; 4] {
+        pattern(multipliers(qp))
+    }
+
+    // A level times 16 v is shifted by QP / 6 - 6 places. To the right it is rounded to the nearest first; a shift to
+    // the left goes into the step, so that one line of code does for both.
+    fn rescaling(qp: Qp) -> Rescaling {
+        let shift = 6u32.saturating_sub(qp.doublings());
+        Rescaling {
+            steps: pattern(steps(qp)),
+            half: half_of(shift),
+            shift,
+        }
+    }
+
+    fn multiply_columns(x: [[i32; 8]; 8]) -> [[i32; 8]; 8]
+        requires { Sized 8 2097152 x }
+        ensures { result ≡ products eight x }
+    {
+        multiply_columns(x)
+    }
+
+    fn pass_rows(m: [[i16; 8]; 8]) -> Option<[[i16; 8]; 8]>
+        ensures { result ≡ passed eight largest m }
+    {
+        pass_columns::<32767>(m)
+    }
+
+    fn pass_columns(m: [[i16; 8]; 8]) -> Option<[[i16; 8]; 8]>
+        ensures { result ≡ passed eight largest_column m }
+    {
+        pass_columns::<32735>(m)
+    }
+
+    fn distance(qp: Qp, sort: Sort) -> u32 {
+        let sixths = error_sixths(sort) << qp.doublings();
+        (sixths * weighed_factors(qp) + 172032) / 98304
+    }
+
+    ghost edge = { lit≤ tt };
+
+    ghost points = { refl };
+
+    ghost reads = { λ most line. refl };
+
+    ghost shift = { refl };
+
+    ghost shift_small = { lit≤ tt };
+
+    ghost products_small = { products8 };
+
+    ghost coefficients_small = { small8 };
+
+    ghost near = { near8 };
+}
