@@ -1,3 +1,2 @@
 pub mod Idle
-pub mod Restored
-pub mod Returned
+pub mod Written

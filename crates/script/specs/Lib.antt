@@ -1,6 +1,7 @@
 pub mod Answers
+pub mod CameraState
 pub mod Kinds
 pub mod Memory
-pub mod State
 pub mod Sides
+pub mod State
 pub mod Texts

@@ -1,4 +1,4 @@
-// What a command answers, and the text of it: one line, or several for a plane and for the page.
+// What a line answers, and the text of it: one line, or several for a plane and for the page.
 ghost use Rattle.std.specs.Prelude.{◌≡◌};
 ghost use Rattle.script.specs.Texts.{word_of};
 
@@ -8,6 +8,14 @@ use std::fmt;
 
 #[derive(Drop)]
 pub enum Answer {
+    // what the command did, or read
+    Done(Reply),
+    Refused(Refusal),
+}
+
+// What a command that was carried out answers.
+#[derive(Drop)]
+pub enum Reply {
     Opened {
         size: Size,
         first: u32,
@@ -37,33 +45,40 @@ pub enum Answer {
     Levels(Vec<i16>),
     Residual(Vec<i16>),
     Distance(u32),
-    Refused(Refusal),
 }
 
 impl fmt::Display for Answer {
     fn fmt<W: fmt::Write>(&self, f: &mut fmt::Formatter<W>) -> fmt::Result {
         match self {
-            Answer::Opened { size, first } => {
+            Answer::Done(reply) => write!(f, "{reply}"),
+            Answer::Refused(refusal) => {
+                write!(f, "refused {}: {}", refusal.number(), word(*refusal))
+            }
+        }
+    }
+}
+
+impl fmt::Display for Reply {
+    fn fmt<W: fmt::Write>(&self, f: &mut fmt::Formatter<W>) -> fmt::Result {
+        match self {
+            Reply::Opened { size, first } => {
                 write!(f, "opened {} {} count {first}", size.width, size.height)
             }
-            Answer::Unit {
+            Reply::Unit {
                 index,
                 heading,
                 levels,
             } => show_unit(f, *index, *heading, levels.as_slice()),
-            Answer::Restart { index, number } => write!(f, "restart {index}: number {number}"),
-            Answer::Taken(count) => write!(f, "taken, count {count}"),
-            Answer::Memory(end, amount) => write!(f, "memory {end} {amount}"),
-            Answer::Room(amount) => write!(f, "room {amount}"),
-            Answer::Plane { size, samples } => show_plane(f, *size, samples.as_slice()),
-            Answer::Count(count) => write!(f, "count {count}"),
-            Answer::Page { count, last } => show_page(f, *count, *last),
-            Answer::Levels(levels) => show_numbers(f, "levels", levels.as_slice()),
-            Answer::Residual(residual) => show_numbers(f, "residual", residual.as_slice()),
-            Answer::Distance(distance) => write!(f, "distance {distance}"),
-            Answer::Refused(refusal) => {
-                write!(f, "refused {}: {}", refusal.number(), word(*refusal))
-            }
+            Reply::Restart { index, number } => write!(f, "restart {index}: number {number}"),
+            Reply::Taken(count) => write!(f, "taken, count {count}"),
+            Reply::Memory(end, amount) => write!(f, "memory {end} {amount}"),
+            Reply::Room(amount) => write!(f, "room {amount}"),
+            Reply::Plane { size, samples } => show_plane(f, *size, samples.as_slice()),
+            Reply::Count(count) => write!(f, "count {count}"),
+            Reply::Page { count, last } => show_page(f, *count, *last),
+            Reply::Levels(levels) => show_numbers(f, "levels", levels.as_slice()),
+            Reply::Residual(residual) => show_numbers(f, "residual", residual.as_slice()),
+            Reply::Distance(distance) => write!(f, "distance {distance}"),
         }
     }
 }

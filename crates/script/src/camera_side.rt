@@ -1,17 +1,18 @@
 // The camera with its plane, and all that it has given out.
 // Each call finds its memory made before it: once the camera has answered, nothing can fail.
-ghost use Rattle.std.specs.Prelude.{◌≡◌, true, length, IfOk, OnOk};
-ghost use Rattle.script.specs.Answers.{idle};
+ghost use Rattle.std.specs.Prelude.{◌≡◌, length, OnErr};
+ghost use Rattle.script.specs.Answers.{OnTried};
 ghost use Rattle.script.specs.Sides.{restart_of, restart_answer, restart_after};
-ghost use Rattle.script.specs.State.{camera_state as state_of};
 
-use crate::answer::Answer;
+use crate::answer::Reply;
 use crate::command::{Source, Unit};
 use crate::fault::Fault;
-use crate::memory::{Settings, stretch};
+use crate::memory::{Plane, Settings};
+use crate::undone::Undone;
 use ends::{Camera, Heading};
 use kinds::Kind;
 use std::alloc::Global;
+use std::marker::Model;
 
 #[derive(Drop)]
 pub enum Given {
@@ -21,39 +22,83 @@ pub enum Given {
 
 #[derive(Drop)]
 pub struct CameraSide {
-    pub camera: Camera,
-    pub plane: Vec<u8>,
-    pub given: Vec<Given>,
+    camera: Camera,
+    plane: Plane,
+    given: Vec<Given>,
+}
+
+// To contracts it is what it holds, wherever its list lies in memory.
+impl Model for CameraSide {
+    ghost use Rattle.std.specs.Prelude.{vec_items};
+    ghost use Rattle.script.specs.CameraState.{CameraState};
+
+    ghost Value = { CameraState };
+
+    ghost view = { λ side. record { camera = side.camera; plane = side.plane; given = vec_items side.given } };
 }
 
 impl CameraSide {
+    // A camera that has given out nothing.
+    pub fn new(heap: Global, camera: Camera, plane: Plane) -> CameraSide {
+        CameraSide {
+            camera,
+            plane,
+            given: Vec::new(heap),
+        }
+    }
+
+    pub fn count(&self) -> u32
+        ensures { result ≡ self.now.camera.end.count }
+    {
+        self.camera.count()
+    }
+
+    pub fn samples(&self) -> &[u8]
+        ensures { result.now ≡ self.now.plane }
+    {
+        self.plane.samples()
+    }
+
+    // The unit that was given out as `index`.
+    pub fn unit(&self, index: usize) -> Result<&Unit, Fault> {
+        match self.given.get(index) {
+            Some(Given::Unit(unit)) => Ok(unit),
+            Some(Given::Restart(_)) => Err(Fault::NotUnit(index)),
+            None => Err(Fault::NotGiven(index)),
+        }
+    }
+
+    // The heading of the restart that was given out as `index`.
+    pub fn heading(&self, index: usize) -> Result<Heading, Fault> {
+        match self.given.get(index) {
+            Some(Given::Restart(heading)) => Ok(*heading),
+            Some(Given::Unit(_)) => Err(Fault::NotRestart(index)),
+            None => Err(Fault::NotGiven(index)),
+        }
+    }
+
     pub fn code(
         &mut self,
         heap: Global,
         settings: Settings,
         source: &Source,
-    ) -> Result<Answer, Fault>
-        ensures unchanged { idle result ≡ true → state_of self.new ≡ state_of self.old }
+    ) -> Result<Reply, Undone>
+        ensures unchanged { OnErr result (self.new ≡ self.old) }
     {
         let kind = source.kind;
         let room = settings.room.of(kind.edge() * kind.edge());
         let mut levels = vec![in heap; 0i16; room]?;
         let mut shown = vec![in heap; 0i16; room]?;
         self.given.reserve(1)?;
-        let area = self.plane.len();
-        let bytes = stretch(&mut self.plane, settings.camera)?;
-        let coded = self.camera.code(
-            &kind,
-            &mut self.plane[0..bytes],
-            source.coding,
-            source.samples.as_slice(),
-            levels.as_mut_slice(),
-        );
-        self.plane.truncate(area);
-        let heading = match coded {
-            Ok(heading) => heading,
-            Err(refusal) => return Ok(Answer::Refused(refusal)),
-        };
+        let coding = source.coding;
+        let samples = source.samples.as_slice();
+        let (coded, levels) = self
+            .plane
+            .lend(settings.camera, &mut self.camera, move |camera, plane| {
+                let coded = camera.code(&kind, plane, coding, samples, levels.as_mut_slice());
+                (coded, levels)
+            })?;
+        let heading = coded?;
         shown.copy_from_slice(levels.as_slice());
         let index = self.given.len();
         self.given.push_reserved(Given::Unit(Unit {
@@ -61,30 +106,25 @@ impl CameraSide {
             heading,
             levels,
         }));
-        Ok(Answer::Unit {
+        Ok(Reply::Unit {
             index,
             heading,
             levels: shown,
         })
     }
 
-    pub fn restart(&mut self, settings: Settings) -> Result<Answer, Fault>
-        ensures unchanged { idle result ≡ true → state_of self.new ≡ state_of self.old }
-        ensures answer { IfOk result (λ answer. answer ≡ restart_answer (length self.old.given.items) (restart_of self.old settings).answer) }
-        ensures after { OnOk result (state_of self.new ≡ restart_after self.old (restart_of self.old settings)) }
+    pub fn restart(&mut self, settings: Settings) -> Result<Reply, Undone>
+        ensures unchanged { OnErr result (self.new ≡ self.old) }
+        ensures answer { OnTried result (result ≡ restart_answer (length self.old.given) (restart_of self.old settings).answer) }
+        ensures after { OnTried result (self.new ≡ restart_after self.old (restart_of self.old settings)) }
     {
         self.given.reserve(1)?;
-        let area = self.plane.len();
-        let bytes = stretch(&mut self.plane, settings.camera)?;
-        let restarted = self.camera.restart(&mut self.plane[0..bytes]);
-        self.plane.truncate(area);
-        let heading = match restarted {
-            Ok(heading) => heading,
-            Err(refusal) => return Ok(Answer::Refused(refusal)),
-        };
+        let heading = self
+            .plane
+            .lend(settings.camera, &mut self.camera, Camera::restart)??;
         let index = self.given.len();
         self.given.push_reserved(Given::Restart(heading));
-        Ok(Answer::Restart {
+        Ok(Reply::Restart {
             index,
             number: heading.number,
         })

@@ -15,7 +15,8 @@ mod opened;
 mod parse;
 mod session;
 mod tile;
+mod undone;
 
-pub use answer::Answer;
+pub use answer::{Answer, Reply};
 pub use fault::Fault;
 pub use session::Session;

@@ -1,16 +1,15 @@
 // Both ends, opened alike, each with its plane.
-ghost use Rattle.std.specs.Prelude.{◌≡◌, true, IfOk};
-ghost use Rattle.script.specs.Answers.{idle, count_of, page_of, samples_of, shown_plane};
-ghost use Rattle.script.specs.State.{opened_state as state_of};
+ghost use Rattle.std.specs.Prelude.{◌≡◌, IfOk, OnErr};
+ghost use Rattle.script.specs.Answers.{count_of, page_of, samples_of, shown_plane};
 
-use crate::answer::Answer;
-use crate::camera_side::{CameraSide, Given};
+use crate::answer::Reply;
+use crate::camera_side::CameraSide;
 use crate::command::{End, EndsCommand};
-use crate::fault::Fault;
 use crate::handset_side::HandsetSide;
 use crate::memory::Settings;
+use crate::undone::Undone;
 use ends::Size;
-use std::alloc::Global;
+use std::alloc::{AllocError, Global};
 
 #[derive(Drop)]
 pub struct Opened {
@@ -25,70 +24,52 @@ impl Opened {
         heap: Global,
         settings: Settings,
         command: EndsCommand,
-    ) -> Result<Answer, Fault>
-        ensures unchanged { idle result ≡ true → state_of self.new ≡ state_of self.old }
+    ) -> Result<Reply, Undone>
+        ensures unchanged { OnErr result (self.new ≡ self.old) }
     {
         match command {
             EndsCommand::Code(source) => self.camera.code(heap, settings, &source),
             EndsCommand::Restart => self.camera.restart(settings),
-            EndsCommand::Follow(index) => self.follow(settings, index),
-            EndsCommand::Resume(index) => self.resume(settings, index),
+            EndsCommand::Follow(index) => self.handset.follow(settings, self.camera.unit(index)?),
+            EndsCommand::Resume(index) => self
+                .handset
+                .resume(settings, self.camera.heading(index)?),
             EndsCommand::Offer(unit) => self.handset.follow(settings, &unit),
             EndsCommand::Mark(heading) => self.handset.resume(settings, heading),
-            EndsCommand::Plane(end) => self.plane(heap, end),
+            EndsCommand::Plane(end) => Ok(self.plane(heap, end)?),
             EndsCommand::Count(end) => Ok(self.count(end)),
             EndsCommand::Page => Ok(self.page()),
         }
     }
 
-    fn follow(&mut self, settings: Settings, index: usize) -> Result<Answer, Fault>
-        ensures unchanged { idle result ≡ true → state_of self.new ≡ state_of self.old }
+    fn plane(&self, heap: Global, end: End) -> Result<Reply, AllocError>
+        ensures { IfOk result (λ reply. samples_of reply ≡ shown_plane self.now end) }
     {
-        match self.camera.given.get(index) {
-            Some(Given::Unit(unit)) => self.handset.follow(settings, unit),
-            Some(Given::Restart(_)) => Err(Fault::NotUnit(index)),
-            None => Err(Fault::NotGiven(index)),
-        }
-    }
-
-    fn resume(&mut self, settings: Settings, index: usize) -> Result<Answer, Fault>
-        ensures unchanged { idle result ≡ true → state_of self.new ≡ state_of self.old }
-    {
-        match self.camera.given.get(index) {
-            Some(Given::Restart(heading)) => self.handset.resume(settings, *heading),
-            Some(Given::Unit(_)) => Err(Fault::NotRestart(index)),
-            None => Err(Fault::NotGiven(index)),
-        }
-    }
-
-    fn plane(&self, heap: Global, end: End) -> Result<Answer, Fault>
-        ensures { IfOk result (λ answer. samples_of answer ≡ shown_plane self.now end) }
-    {
-        let plane = match end {
-            End::Camera => &self.camera.plane,
-            End::Handset => &self.handset.plane,
+        let samples = match end {
+            End::Camera => self.camera.samples(),
+            End::Handset => self.handset.plane.samples(),
         };
-        Ok(Answer::Plane {
+        Ok(Reply::Plane {
             size: self.size,
-            samples: Vec::from_slice(heap, plane.as_slice())?,
+            samples: Vec::from_slice(heap, samples)?,
         })
     }
 
-    fn count(&self, end: End) -> Answer
+    fn count(&self, end: End) -> Reply
         ensures { result ≡ count_of self.now end }
     {
         let count = match end {
-            End::Camera => self.camera.camera.count(),
+            End::Camera => self.camera.count(),
             End::Handset => self.handset.handset.count(),
         };
-        Answer::Count(count)
+        Reply::Count(count)
     }
 
     // The service page shows the handset.
-    fn page(&self) -> Answer
+    fn page(&self) -> Reply
         ensures { result ≡ page_of self.now }
     {
-        Answer::Page {
+        Reply::Page {
             count: self.handset.handset.count(),
             last: self.handset.last,
         }

@@ -1,17 +1,18 @@
 // A run of a script: the settings, and the ends once they are open.
-ghost use Rattle.std.specs.Prelude.{◌≡◌, true};
-ghost use Rattle.script.specs.Answers.{idle, idle_line};
-ghost use Rattle.script.specs.State.{session_state as state_of, at_first, with_memory, with_room};
+ghost use Rattle.std.specs.Prelude.{◌≡◌, true, OnErr};
+ghost use Rattle.script.specs.Answers.{idle_line};
+ghost use Rattle.script.specs.State.{at_first, with_memory, with_room};
 
-use crate::answer::Answer;
+use crate::answer::{Answer, Reply};
 use crate::camera_side::CameraSide;
 use crate::command::{Amount, Command, End, MOST_MEMORY};
 use crate::fault::Fault;
 use crate::handset_side::HandsetSide;
-use crate::memory::Settings;
+use crate::memory::{Plane, Settings};
 use crate::opened::Opened;
 use crate::parse::parse_line;
 use crate::tile;
+use crate::undone::Undone;
 use ends::{Camera, Handset, Size};
 use std::alloc::{AllocError, Global};
 
@@ -24,7 +25,7 @@ pub struct Session {
 
 impl Session {
     pub fn new(heap: Global) -> Session
-        ensures { state_of result ≡ at_first }
+        ensures { result ≡ at_first heap }
     {
         let settings = Settings {
             camera: Amount::All,
@@ -40,16 +41,20 @@ impl Session {
 
     // What a line answers, or none where it holds no command.
     pub fn answer_line(&mut self, line: &[u8]) -> Result<Option<Answer>, Fault>
-        ensures unchanged { idle_line result ≡ true → state_of self.new ≡ state_of self.old }
+        ensures unchanged { idle_line result ≡ true → self.new ≡ self.old }
     {
-        match parse_line(self.heap, line)? {
-            Some(command) => Ok(Some(self.run(command)?)),
-            None => Ok(None),
+        let Some(command) = parse_line(self.heap, line)? else {
+            return Ok(None);
+        };
+        match self.run(command) {
+            Ok(reply) => Ok(Some(Answer::Done(reply))),
+            Err(Undone::Refused(refusal)) => Ok(Some(Answer::Refused(refusal))),
+            Err(Undone::InError(fault)) => Err(fault),
         }
     }
 
-    fn run(&mut self, command: Command) -> Result<Answer, Fault>
-        ensures unchanged { idle result ≡ true → state_of self.new ≡ state_of self.old }
+    fn run(&mut self, command: Command) -> Result<Reply, Undone>
+        ensures unchanged { OnErr result (self.new ≡ self.old) }
     {
         match command {
             Command::Open { size, first } => self.open(size, first),
@@ -70,58 +75,48 @@ impl Session {
             Command::Distance { kind, qp, sort } => tile::distance(kind, qp, sort),
             Command::OfEnds(command) => match &mut self.opened {
                 Some(opened) => opened.run(self.heap, self.settings, command),
-                None => Err(Fault::NotOpen),
+                None => Err(Undone::InError(Fault::NotOpen)),
             },
         }
     }
 
     // Both ends anew. Where one is refused, the earlier ones stay.
-    fn open(&mut self, size: Size, first: u32) -> Result<Answer, Fault>
-        ensures unchanged { idle result ≡ true → state_of self.new ≡ state_of self.old }
+    fn open(&mut self, size: Size, first: u32) -> Result<Reply, Undone>
+        ensures unchanged { OnErr result (self.new ≡ self.old) }
     {
         let mut camera_plane = new_plane(self.heap, size, self.settings.camera)?;
         let mut handset_plane = new_plane(self.heap, size, self.settings.handset)?;
-        let camera = match Camera::open(size, first, camera_plane.as_mut_slice()) {
-            Ok(camera) => camera,
-            Err(refusal) => return Ok(Answer::Refused(refusal)),
-        };
-        let handset = match Handset::open(size, first, handset_plane.as_mut_slice()) {
-            Ok(handset) => handset,
-            Err(refusal) => return Ok(Answer::Refused(refusal)),
-        };
+        let camera = Camera::open(size, first, camera_plane.as_mut_slice())?;
+        let handset = Handset::open(size, first, handset_plane.as_mut_slice())?;
         self.opened = Some(Opened {
             size,
-            camera: CameraSide {
-                camera,
-                plane: camera_plane,
-                given: Vec::new(self.heap),
-            },
+            camera: CameraSide::new(self.heap, camera, Plane::new(camera_plane)),
             handset: HandsetSide {
                 handset,
-                plane: handset_plane,
+                plane: Plane::new(handset_plane),
                 last: None,
             },
         });
-        Ok(Answer::Opened { size, first })
+        Ok(Reply::Opened { size, first })
     }
 
-    fn set_memory(&mut self, end: End, amount: Amount) -> Answer
-        ensures answer { result ≡ Answer.Memory end amount }
-        ensures after { state_of self.new ≡ with_memory (state_of self.old) end amount }
+    fn set_memory(&mut self, end: End, amount: Amount) -> Reply
+        ensures answer { result ≡ Reply.Memory end amount }
+        ensures after { self.new ≡ with_memory self.old end amount }
     {
         match end {
             End::Camera => self.settings.camera = amount,
             End::Handset => self.settings.handset = amount,
         }
-        Answer::Memory(end, amount)
+        Reply::Memory(end, amount)
     }
 
-    fn set_room(&mut self, amount: Amount) -> Answer
-        ensures answer { result ≡ Answer.Room amount }
-        ensures after { state_of self.new ≡ with_room (state_of self.old) amount }
+    fn set_room(&mut self, amount: Amount) -> Reply
+        ensures answer { result ≡ Reply.Room amount }
+        ensures after { self.new ≡ with_room self.old amount }
     {
         self.settings.room = amount;
-        Answer::Room(amount)
+        Reply::Room(amount)
     }
 }
 

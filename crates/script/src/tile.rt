@@ -4,10 +4,10 @@ ghost use Rattle.std.specs.Prelude.{◌≡◌, ◌<◌, ◌≤◌, length, Match
 ghost use Rattle.kinds.specs.Meaning.{Differences, area};
 ghost use Rattle.script.specs.Kinds.{meaning_of};
 
-use crate::answer::Answer;
+use crate::answer::Reply;
 use crate::fault::Fault;
 use crate::kind::KindName;
-use ends::Refusal;
+use crate::undone::Undone;
 use kinds::{Kind, Sort};
 use std::alloc::Global;
 
@@ -17,37 +17,33 @@ pub fn levels(
     qp: u8,
     sort: Sort,
     residual: &[i16],
-) -> Result<Answer, Fault> {
+) -> Result<Reply, Undone> {
     check_qp(qp)?;
     check_count(kind, residual)?;
     check_differences(residual)?;
     let mut levels = vec![in heap; 0i16; residual.len()]?;
     let mut reconstruction = vec![in heap; 0i16; residual.len()]?;
-    match kind.levels(
+    kind.levels(
         qp,
         sort,
         residual,
         levels.as_mut_slice(),
         reconstruction.as_mut_slice(),
-    ) {
-        Ok(()) => Ok(Answer::Levels(levels)),
-        Err(_) => Ok(Answer::Refused(Refusal::Width)),
-    }
+    )?;
+    Ok(Reply::Levels(levels))
 }
 
-pub fn rebuild(heap: Global, kind: KindName, qp: u8, levels: &[i16]) -> Result<Answer, Fault> {
+pub fn rebuild(heap: Global, kind: KindName, qp: u8, levels: &[i16]) -> Result<Reply, Undone> {
     check_qp(qp)?;
     check_count(kind, levels)?;
     let mut residual = vec![in heap; 0i16; levels.len()]?;
-    match kind.reconstruct(qp, levels, residual.as_mut_slice()) {
-        Ok(()) => Ok(Answer::Residual(residual)),
-        Err(_) => Ok(Answer::Refused(Refusal::Width)),
-    }
+    kind.reconstruct(qp, levels, residual.as_mut_slice())?;
+    Ok(Reply::Residual(residual))
 }
 
-pub fn distance(kind: KindName, qp: u8, sort: Sort) -> Result<Answer, Fault> {
+pub fn distance(kind: KindName, qp: u8, sort: Sort) -> Result<Reply, Undone> {
     check_qp(qp)?;
-    Ok(Answer::Distance(kind.distance(qp, sort)))
+    Ok(Reply::Distance(kind.distance(qp, sort)))
 }
 
 fn check_qp(qp: u8) -> Result<(), Fault>

@@ -1,54 +1,19 @@
--- The call is made on the memory that is handed, and what it leaves there is written into the plane.
-use Rattle.std.proofs.Common.{◌≡◌, ◌-◌, length, take, None, vec_items, vec_len, sym, ap, ◌∙◌, true≢false, arith, rules}
-use Rattle.ends.specs.Calls.{resume_call}
-use Rattle.script.specs.declared.answer.Answer.TheVariants as gives
-use Rattle.script.specs.Memory.{handed}
-use Rattle.script.specs.Sides.{memory_of, taken, handset_after, written}
+use Rattle.std.proofs.Common.{◌≡◌, sym, ◌∙◌, rules}
+use Rattle.std.proofs.lemmas.Result.{err_from_is_err_and}
+use Rattle.ends.specs.Calls.{Answered}
+use Rattle.script.specs.Sides.{resume_of}
 use Rattle.script.proofs.Idle.{resumed_idle}
-use Rattle.script.proofs.Restored.{restored}
-use Rattle.script.proofs.Returned.{returned}
+use Rattle.script.proofs.Written.{kept}
 use Rattle.script.proofs.handset_side.HandsetSide.resume.Goals as goal
 
-pub returns-in-Err : goal.returns-in-Err
-returns-in-Err c =
+pub returns-in_err-branch-clause-unchanged : goal.returns-in_err-branch-clause-unchanged
+returns-in_err-branch-clause-unchanged c =
     let s = c.args.self.now in
-    let plane = vec_items s.plane in
-    let stretched = c.stretch.new.plane in
-    let bytes = c.in_ok-bytes.bytes in
-    let lent = c.deref_mut.result.now in
-    let amount = c.args.settings.handset in
-    let long : vec_len stretched ≡ length (vec_items stretched) = search rules in
-    let own : c.len-area.result ≡ length plane = search rules in
-    let number : bytes - 0 ≡ handed amount (length plane) = omega (arith, c.in_ok-bytes.ensures.answer) in
-    let whole = c.deref_mut.ensures.value ∙ c.in_ok-bytes.ensures.plane in
-    let memory : take (bytes - 0) lent ≡ memory_of plane amount = λ i. take (number i) (whole i) in
-    let called = ap (λ m. resume_call s.handset.end m c.args.heading) (sym memory) ∙ c.in-Err.ensures in
-    let back : vec_items c.truncate.new.self ≡ written plane c.resume-called.new.plane = c.truncate.ensures.items ∙ returned _ _ _ _ _ _ _ _ (search rules) (search rules) c.deref_mut.ensures.value long c.in_ok-bytes.ensures.plane own in
-    let kept = resumed_idle _ _ c.in-Err.ensures in
-    let same : vec_items c.truncate.new.self ≡ plane = c.truncate.ensures.items ∙ restored _ _ _ _ _ _ _ _ kept.1 c.deref_mut.ensures.value long c.in_ok-bytes.ensures.plane own in
-    record {
-      unchanged = λ _ i. record { handset = record { end = kept.0 i }; plane = same i; last = s.last };
-      answer = sym (ap taken called);
-      after = (λ i. record { handset = c.resume-called.new.self; plane = back i; last = s.last }) ∙ sym (ap (λ a. handset_after s a None) called);
-    }
-
-pub returns : goal.returns
-returns c =
-    let s = c.args.self.now in
-    let plane = vec_items s.plane in
-    let stretched = c.stretch.new.plane in
-    let bytes = c.in_ok-bytes.bytes in
-    let lent = c.deref_mut.result.now in
-    let amount = c.args.settings.handset in
-    let long : vec_len stretched ≡ length (vec_items stretched) = search rules in
-    let own : c.len-area.result ≡ length plane = search rules in
-    let number : bytes - 0 ≡ handed amount (length plane) = omega (arith, c.in_ok-bytes.ensures.answer) in
-    let whole = c.deref_mut.ensures.value ∙ c.in_ok-bytes.ensures.plane in
-    let memory : take (bytes - 0) lent ≡ memory_of plane amount = λ i. take (number i) (whole i) in
-    let called = ap (λ m. resume_call s.handset.end m c.args.heading) (sym memory) ∙ c.in_default.ensures in
-    let back : vec_items c.truncate.new.self ≡ written plane c.resume-called.new.plane = c.truncate.ensures.items ∙ returned _ _ _ _ _ _ _ _ (search rules) (search rules) c.deref_mut.ensures.value long c.in_ok-bytes.ensures.plane own in
-    record {
-      unchanged = λ e. absurd (true≢false (sym e));
-      answer = ap gives.Taken c.count.ensures ∙ sym (ap taken called);
-      after = (λ i. record { handset = c.resume-called.new.self; plane = back i; last = None }) ∙ sym (ap (λ a. handset_after s a None) called);
-    }
+    let lent = c.in_ok-lend.ensures.lent in
+    let call : Answered (Unit {0}) = resume_of s c.args.settings c.args.heading in
+    let answer : call.answer ≡ c.in_ok-lend.field-0 = search rules in
+    let end : call.end ≡ c.lend.new.end.end = search rules in
+    let idle = resumed_idle c.args.heading _ (answer ∙ c.in_err-branch.was) in
+    let plane : c.lend.new.self ≡ s.plane = kept s.plane c.args.settings.handset lent.2 (search rules) idle.1 in
+    let gives = err_from_is_err_and c.from_residual-in_err-branch.result c.from_residual-in_err-branch.ensures.1 in
+    rw gives.1 (λ i. record { handset = record { end = (sym end ∙ idle.0) i }; plane = plane i; last = s.last })
