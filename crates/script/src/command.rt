@@ -2,10 +2,13 @@
 ghost use Rattle.std.specs.Prelude.{◌≡◌};
 ghost use Rattle.script.specs.Memory.{handed};
 
+use crate::decimal::number;
+use crate::fault::Fault;
 use crate::kind::KindName;
 use ends::{Coding, Heading, Size};
 use kinds::Sort;
 use std::fmt;
+use std::str::FromStr;
 
 // The most numbers that a list may hold, and the most levels of memory that code is handed.
 pub const MOST_NUMBERS: usize = 4096;
@@ -78,6 +81,18 @@ pub enum End {
     Handset,
 }
 
+impl FromStr for End {
+    type Err = Fault;
+
+    fn from_str(word: &str) -> Result<End, Fault> {
+        match word {
+            "camera" => Ok(End::Camera),
+            "handset" => Ok(End::Handset),
+            _ => Err(Fault::UnknownEnd),
+        }
+    }
+}
+
 impl fmt::Display for End {
     fn fmt<W: fmt::Write>(&self, f: &mut fmt::Formatter<W>) -> fmt::Result {
         match self {
@@ -102,6 +117,25 @@ impl Amount {
         match self {
             Amount::All => all,
             Amount::Exactly(number) => number,
+        }
+    }
+
+    // The same amount, if it is no number above `most`.
+    pub fn up_to(self, most: usize) -> Result<Amount, Fault> {
+        match self {
+            Amount::Exactly(number) if number > most => Err(Fault::TooMuch(most)),
+            _ => Ok(self),
+        }
+    }
+}
+
+impl FromStr for Amount {
+    type Err = Fault;
+
+    fn from_str(word: &str) -> Result<Amount, Fault> {
+        match word {
+            "all" => Ok(Amount::All),
+            _ => Ok(Amount::Exactly(number(word, "N")?)),
         }
     }
 }

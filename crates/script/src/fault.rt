@@ -2,6 +2,7 @@
 use crate::command::MOST_NUMBERS;
 use std::alloc::AllocError;
 use std::fmt;
+use std::str::Utf8Error;
 
 #[derive(Clone, Copy)]
 pub enum Fault {
@@ -56,5 +57,11 @@ impl fmt::Display for Fault {
 impl From<AllocError> for Fault {
     fn from(_error: AllocError) -> Fault {
         Fault::NoMemory
+    }
+}
+
+impl From<Utf8Error> for Fault {
+    fn from(_error: Utf8Error) -> Fault {
+        Fault::NotText
     }
 }

@@ -2,11 +2,37 @@
 ghost use Rattle.script.specs.Kinds.{meaning_of};
 ghost use Rattle.std.proofs.Common.{rules};
 
+use crate::fault::Fault;
 use kinds::{Exact, Kind, Sort, WidthFault};
+use std::str::FromStr;
 
 #[derive(Clone, Copy)]
 pub enum KindName {
     Exact,
+}
+
+impl FromStr for KindName {
+    type Err = Fault;
+
+    fn from_str(word: &str) -> Result<KindName, Fault> {
+        match word {
+            "exact" => Ok(KindName::Exact),
+            _ => Err(Fault::UnknownKind),
+        }
+    }
+}
+
+// Asks the kind that a name stands for. A macro, since no closure takes kinds of several types,
+// and a `dyn Kind` cannot be handed out.
+macro_rules! ask {
+    ($name:expr, $kind:ident => $answer:expr) => {
+        match $name {
+            KindName::Exact => {
+                let $kind = Exact;
+                $answer
+            }
+        }
+    };
 }
 
 impl Kind for KindName {
@@ -15,15 +41,11 @@ impl Kind for KindName {
     ghost facts = { Prim.search rules };
 
     fn edge(&self) -> usize {
-        match self {
-            KindName::Exact => Exact.edge(),
-        }
+        ask!(self, kind => kind.edge())
     }
 
     fn tag(&self) -> u8 {
-        match self {
-            KindName::Exact => Exact.tag(),
-        }
+        ask!(self, kind => kind.tag())
     }
 
     fn levels(
@@ -34,9 +56,7 @@ impl Kind for KindName {
         levels: &mut [i16],
         reconstruction: &mut [i16],
     ) -> Result<(), WidthFault> {
-        match self {
-            KindName::Exact => Exact.levels(qp, sort, residual, levels, reconstruction),
-        }
+        ask!(self, kind => kind.levels(qp, sort, residual, levels, reconstruction))
     }
 
     fn reconstruct(
@@ -45,14 +65,10 @@ impl Kind for KindName {
         levels: &[i16],
         reconstruction: &mut [i16],
     ) -> Result<(), WidthFault> {
-        match self {
-            KindName::Exact => Exact.reconstruct(qp, levels, reconstruction),
-        }
+        ask!(self, kind => kind.reconstruct(qp, levels, reconstruction))
     }
 
     fn distance(&self, qp: u8, sort: Sort) -> u32 {
-        match self {
-            KindName::Exact => Exact.distance(qp, sort),
-        }
+        ask!(self, kind => kind.distance(qp, sort))
     }
 }

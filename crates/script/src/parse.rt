@@ -1,26 +1,14 @@
 // Reads a line of the script: its words by their places, each command by its form.
-use crate::command::{Amount, Command, End, EndsCommand, MOST_MEMORY, MOST_NUMBERS, Source, Unit};
+use crate::command::{Amount, Command, EndsCommand, MOST_MEMORY, MOST_NUMBERS, Source, Unit};
 use crate::decimal::{number, numbers};
 use crate::fault::Fault;
-use crate::kind::KindName;
 use ends::{Coding, Heading, Size};
 use kinds::Sort;
 use std::alloc::{AllocError, Global};
 
-// The coding of a restart's heading.
-const NO_CODING: Coding = Coding {
-    x: 0,
-    y: 0,
-    qp: 0,
-    mode: 0,
-};
-
 // The command of a line, or none where it holds only blanks and a comment.
 pub fn parse_line(heap: Global, line: &[u8]) -> Result<Option<Command>, Fault> {
-    let Ok(text) = std::str::from_utf8(line) else {
-        return Err(Fault::NotText);
-    };
-    let words = words(heap, text)?;
+    let words = words(heap, std::str::from_utf8(line)?)?;
     if words.is_empty() {
         return Ok(None);
     }
@@ -28,37 +16,33 @@ pub fn parse_line(heap: Global, line: &[u8]) -> Result<Option<Command>, Fault> {
 }
 
 fn words(heap: Global, line: &str) -> Result<Vec<&str>, AllocError> {
-    let text = match line.split_once('#') {
-        Some((text, _)) => text,
-        None => line,
-    };
-    let mut words = Vec::new(heap);
-    for word in text.split([' ', '\t', '\r']) {
-        if !word.is_empty() {
-            words.push(word)?;
-        }
-    }
-    Ok(words)
+    let text = line.split_once('#').map_or(line, |(text, _)| text);
+    text.split([' ', '\t', '\r'])
+        .filter(|word| !word.is_empty())
+        .collect(heap)
 }
 
 fn command(heap: Global, words: &[&str]) -> Result<Command, Fault> {
     match words {
         ["open", width, height, first] => open(width, height, first),
-        ["memory", name, bytes] => Ok(Command::Memory(end(name)?, amount(bytes, MOST_MEMORY)?)),
-        ["room", levels] => Ok(Command::Room(amount(levels, MOST_NUMBERS)?)),
+        ["memory", name, bytes] => Ok(Command::Memory(
+            name.parse()?,
+            bytes.parse::<Amount>()?.up_to(MOST_MEMORY)?,
+        )),
+        ["room", levels] => Ok(Command::Room(levels.parse::<Amount>()?.up_to(MOST_NUMBERS)?)),
         ["levels", kind, qp, name, ":", residual @ ..] => Ok(Command::Levels {
-            kind: kind_name(kind)?,
+            kind: kind.parse()?,
             qp: number(qp, "QP")?,
             sort: sort(name)?,
             residual: numbers(heap, residual)?,
         }),
         ["rebuild", kind, qp, ":", levels @ ..] => Ok(Command::Rebuild {
-            kind: kind_name(kind)?,
+            kind: kind.parse()?,
             qp: number(qp, "QP")?,
             levels: numbers(heap, levels)?,
         }),
         ["distance", kind, qp, name] => Ok(Command::Distance {
-            kind: kind_name(kind)?,
+            kind: kind.parse()?,
             qp: number(qp, "QP")?,
             sort: sort(name)?,
         }),
@@ -69,7 +53,7 @@ fn command(heap: Global, words: &[&str]) -> Result<Command, Fault> {
 fn ends_command(heap: Global, words: &[&str]) -> Result<EndsCommand, Fault> {
     match words {
         ["code", kind, x, y, qp, mode, ":", samples @ ..] => Ok(EndsCommand::Code(Source {
-            kind: kind_name(kind)?,
+            kind: kind.parse()?,
             coding: coding(x, y, qp, mode)?,
             samples: numbers(heap, samples)?,
         })),
@@ -78,14 +62,14 @@ fn ends_command(heap: Global, words: &[&str]) -> Result<EndsCommand, Fault> {
         ["resume", index] => Ok(EndsCommand::Resume(number(index, "I")?)),
         ["offer", kind, count, x, y, tag, qp, mode, ":", levels @ ..] => Ok(EndsCommand::Offer(
             Unit {
-                kind: kind_name(kind)?,
+                kind: kind.parse()?,
                 heading: heading(count, tag, coding(x, y, qp, mode)?)?,
                 levels: numbers(heap, levels)?,
             },
         )),
-        ["mark", count, tag] => Ok(EndsCommand::Mark(heading(count, tag, NO_CODING)?)),
-        ["plane", name] => Ok(EndsCommand::Plane(end(name)?)),
-        ["count", name] => Ok(EndsCommand::Count(end(name)?)),
+        ["mark", count, tag] => Ok(EndsCommand::Mark(mark(count, tag)?)),
+        ["plane", name] => Ok(EndsCommand::Plane(name.parse()?)),
+        ["count", name] => Ok(EndsCommand::Count(name.parse()?)),
         ["page"] => Ok(EndsCommand::Page),
         [name, ..] => Err(misfit(name)),
         [] => Err(Fault::UnknownCommand),
@@ -125,21 +109,7 @@ fn open(width: &str, height: &str, first: &str) -> Result<Command, Fault> {
     })
 }
 
-fn kind_name(word: &str) -> Result<KindName, Fault> {
-    match word {
-        "exact" => Ok(KindName::Exact),
-        _ => Err(Fault::UnknownKind),
-    }
-}
-
-fn end(word: &str) -> Result<End, Fault> {
-    match word {
-        "camera" => Ok(End::Camera),
-        "handset" => Ok(End::Handset),
-        _ => Err(Fault::UnknownEnd),
-    }
-}
-
+// No FromStr: the trait and the type both stand in other crates.
 fn sort(word: &str) -> Result<Sort, Fault> {
     match word {
         "intra" => Ok(Sort::Intra),
@@ -165,13 +135,11 @@ fn heading(count: &str, tag: &str, coding: Coding) -> Result<Heading, Fault> {
     })
 }
 
-fn amount(word: &str, most: usize) -> Result<Amount, Fault> {
-    if word == "all" {
-        return Ok(Amount::All);
-    }
-    let count = number(word, "N")?;
-    if count > most {
-        return Err(Fault::TooMuch(most));
-    }
-    Ok(Amount::Exactly(count))
+// A restart's heading, but for the tag.
+fn mark(count: &str, tag: &str) -> Result<Heading, Fault> {
+    let restart = Heading::restart(number(count, "NUMBER")?);
+    Ok(Heading {
+        tag: number(tag, "TAG")?,
+        ..restart
+    })
 }

@@ -68,10 +68,12 @@ fn check_count(kind: KindName, numbers: &[i16]) -> Result<(), Fault>
 fn check_differences(residual: &[i16]) -> Result<(), Fault>
     ensures { OnOk result (Differences residual.now) }
 {
-    for difference in residual {
-        if *difference < -255 || *difference > 255 {
-            return Err(Fault::NotDifference);
-        }
+    if residual
+        .iter()
+        .all(|difference| -255 <= *difference && *difference <= 255)
+    {
+        Ok(())
+    } else {
+        Err(Fault::NotDifference)
     }
-    Ok(())
 }
