@@ -2,7 +2,7 @@
 #![tactic(auto)]
 
 use anyhow::anyhow;
-use script::Session;
+use script::{Session, Undone};
 use std::io::{BufRead, BufReader, BufWriter, Write};
 
 fn main(rt: HostRuntime) -> anyhow::Result<()> {
@@ -15,10 +15,11 @@ fn main(rt: HostRuntime) -> anyhow::Result<()> {
         match session.answer_line(line?.as_slice()) {
             Ok(Some(answer)) => writeln!(out, "{answer}")?,
             Ok(None) => {}
-            Err(fault) => {
+            Err(Undone::InError(fault)) => {
                 wrong = true;
                 writeln!(out, "error line {number}: {fault}")?;
             }
+            Err(refused) => writeln!(out, "{refused}")?,
         }
     }
     out.flush()?;

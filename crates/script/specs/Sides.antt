@@ -4,8 +4,8 @@ use Rattle.ends.specs.declared.coding.Coding.{Coding}
 use Rattle.ends.specs.declared.coding.Heading.{Heading}
 use Rattle.ends.specs.declared.refusal.Refusal.{Refusal}
 use Rattle.ends.specs.Calls.{Answered, restart_call, follow_call, resume_call}
-use Rattle.script.specs.declared.answer.Reply.{Reply}
-use Rattle.script.specs.declared.answer.Reply.TheVariants as gives
+use Rattle.script.specs.declared.answer.Answer.{Answer}
+use Rattle.script.specs.declared.answer.Answer.TheVariants as gives
 use Rattle.script.specs.declared.camera_side.Given.{Given}
 use Rattle.script.specs.declared.camera_side.Given.TheVariants as given
 use Rattle.script.specs.declared.command.Unit.{Unit as CodedUnit}
@@ -22,7 +22,7 @@ use Rattle.script.specs.Memory.{memory_of, written}
 abbrev pub restart_of : CameraState → Settings → Answered Heading
 restart_of s settings = restart_call s.camera.end (memory_of s.plane settings.camera)
 
-abbrev pub restart_answer : (index : ℕ) → Result Heading Refusal → Result Reply Undone
+abbrev pub restart_answer : (index : ℕ) → Result Heading Refusal → Result Answer Undone
 restart_answer index (Ok heading) = Ok (gives.Restart index heading.number)
 restart_answer index (Err refusal) = Err (Refused refusal)
 
@@ -47,11 +47,11 @@ abbrev pub resume_of : HandsetSide → Settings → Heading → Answered (Unit {
 resume_of s settings heading = resume_call s.handset.end (memory_of s.plane settings.handset) heading
 
 -- `taken` with the new count, or the refusal
-abbrev pub taken_or_refused : Result (Unit {0}) Refusal → (count : ℕ) → Result Reply Undone
+abbrev pub taken_or_refused : Result (Unit {0}) Refusal → (count : ℕ) → Result Answer Undone
 taken_or_refused (Ok _) count = Ok (gives.Taken count)
 taken_or_refused (Err refusal) count = Err (Refused refusal)
 
-abbrev pub taken : Answered (Unit {0}) → Result Reply Undone
+abbrev pub taken : Answered (Unit {0}) → Result Answer Undone
 taken call = taken_or_refused call.answer call.end.count
 
 -- the last tile is the new one where the call was taken

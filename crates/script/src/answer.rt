@@ -1,21 +1,10 @@
-// What a line answers, and the text of it: one line, or several for a plane and for the page.
-ghost use Rattle.std.specs.Prelude.{◌≡◌};
-ghost use Rattle.script.specs.Texts.{word_of};
-
+// What a command answers, and the text of it: one line, or several for a plane and for the page.
 use crate::command::{Amount, End};
-use ends::{Coding, Heading, Refusal, Size};
+use ends::{Coding, Heading, Size};
 use std::fmt;
 
 #[derive(Drop)]
 pub enum Answer {
-    // what the command did, or read
-    Done(Reply),
-    Refused(Refusal),
-}
-
-// What a command that was carried out answers.
-#[derive(Drop)]
-pub enum Reply {
     Opened {
         size: Size,
         first: u32,
@@ -50,35 +39,24 @@ pub enum Reply {
 impl fmt::Display for Answer {
     fn fmt<W: fmt::Write>(&self, f: &mut fmt::Formatter<W>) -> fmt::Result {
         match self {
-            Answer::Done(reply) => write!(f, "{reply}"),
-            Answer::Refused(refusal) => {
-                write!(f, "refused {}: {}", refusal.number(), word(*refusal))
-            }
-        }
-    }
-}
-
-impl fmt::Display for Reply {
-    fn fmt<W: fmt::Write>(&self, f: &mut fmt::Formatter<W>) -> fmt::Result {
-        match self {
-            Reply::Opened { size, first } => {
+            Answer::Opened { size, first } => {
                 write!(f, "opened {} {} count {first}", size.width, size.height)
             }
-            Reply::Unit {
+            Answer::Unit {
                 index,
                 heading,
                 levels,
             } => show_unit(f, *index, *heading, levels.as_slice()),
-            Reply::Restart { index, number } => write!(f, "restart {index}: number {number}"),
-            Reply::Taken(count) => write!(f, "taken, count {count}"),
-            Reply::Memory(end, amount) => write!(f, "memory {end} {amount}"),
-            Reply::Room(amount) => write!(f, "room {amount}"),
-            Reply::Plane { size, samples } => show_plane(f, *size, samples.as_slice()),
-            Reply::Count(count) => write!(f, "count {count}"),
-            Reply::Page { count, last } => show_page(f, *count, *last),
-            Reply::Levels(levels) => show_numbers(f, "levels", levels.as_slice()),
-            Reply::Residual(residual) => show_numbers(f, "residual", residual.as_slice()),
-            Reply::Distance(distance) => write!(f, "distance {distance}"),
+            Answer::Restart { index, number } => write!(f, "restart {index}: number {number}"),
+            Answer::Taken(count) => write!(f, "taken, count {count}"),
+            Answer::Memory(end, amount) => write!(f, "memory {end} {amount}"),
+            Answer::Room(amount) => write!(f, "room {amount}"),
+            Answer::Plane { size, samples } => show_plane(f, *size, samples.as_slice()),
+            Answer::Count(count) => write!(f, "count {count}"),
+            Answer::Page { count, last } => show_page(f, *count, *last),
+            Answer::Levels(levels) => show_numbers(f, "levels", levels.as_slice()),
+            Answer::Residual(residual) => show_numbers(f, "residual", residual.as_slice()),
+            Answer::Distance(distance) => write!(f, "distance {distance}"),
         }
     }
 }
@@ -145,24 +123,5 @@ fn show_page<W: fmt::Write>(
     match last {
         Some(Coding { x, y, qp, .. }) => write!(f, "{x} {y} qp {qp}"),
         None => write!(f, "none"),
-    }
-}
-
-fn word(refusal: Refusal) -> &'static str
-    ensures { result.now ≡ word_of refusal }
-{
-    match refusal {
-        Refusal::Size => "size",
-        Refusal::Plane => "plane",
-        Refusal::Count => "count",
-        Refusal::Tag => "tag",
-        Refusal::Late => "late",
-        Refusal::Early => "early",
-        Refusal::Qp => "qp",
-        Refusal::Mode => "mode",
-        Refusal::Place => "place",
-        Refusal::Length => "length",
-        Refusal::Border => "border",
-        Refusal::Width => "width",
     }
 }

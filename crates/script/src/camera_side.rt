@@ -4,7 +4,7 @@ ghost use Rattle.std.specs.Prelude.{◌≡◌, length, OnErr};
 ghost use Rattle.script.specs.Answers.{OnTried};
 ghost use Rattle.script.specs.Sides.{restart_of, restart_answer, restart_after};
 
-use crate::answer::Reply;
+use crate::answer::Answer;
 use crate::command::{Source, Unit};
 use crate::fault::Fault;
 use crate::memory::{Plane, Settings};
@@ -82,7 +82,7 @@ impl CameraSide {
         heap: Global,
         settings: Settings,
         source: &Source,
-    ) -> Result<Reply, Undone>
+    ) -> Result<Answer, Undone>
         ensures unchanged { OnErr result (self.new ≡ self.old) }
     {
         let kind = source.kind;
@@ -106,14 +106,14 @@ impl CameraSide {
             heading,
             levels,
         }));
-        Ok(Reply::Unit {
+        Ok(Answer::Unit {
             index,
             heading,
             levels: shown,
         })
     }
 
-    pub fn restart(&mut self, settings: Settings) -> Result<Reply, Undone>
+    pub fn restart(&mut self, settings: Settings) -> Result<Answer, Undone>
         ensures unchanged { OnErr result (self.new ≡ self.old) }
         ensures answer { OnTried result (result ≡ restart_answer (length self.old.given) (restart_of self.old settings).answer) }
         ensures after { OnTried result (self.new ≡ restart_after self.old (restart_of self.old settings)) }
@@ -124,7 +124,7 @@ impl CameraSide {
             .lend(settings.camera, &mut self.camera, Camera::restart)??;
         let index = self.given.len();
         self.given.push_reserved(Given::Restart(heading));
-        Ok(Reply::Restart {
+        Ok(Answer::Restart {
             index,
             number: heading.number,
         })

@@ -103,6 +103,7 @@ impl fmt::Display for End {
 }
 
 // How much memory a call is handed: all that it asks for, or a number of bytes or levels.
+// It is read from and printed as a word, which an Option could not be.
 #[derive(Clone, Copy)]
 pub enum Amount {
     All,

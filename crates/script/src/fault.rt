@@ -1,4 +1,7 @@
 // What is wrong with a line, in plain words. A line with a fault changes nothing.
+ghost use Rattle.std.specs.Prelude.{◌≡◌};
+ghost use Rattle.script.specs.declared.fault.Fault.TheVariants.{NotText, NoMemory};
+
 use crate::command::MOST_NUMBERS;
 use std::alloc::AllocError;
 use std::fmt;
@@ -55,12 +58,16 @@ impl fmt::Display for Fault {
 }
 
 impl From<AllocError> for Fault {
+    ghost from_gives = { λ _ fault. fault ≡ NoMemory };
+
     fn from(_error: AllocError) -> Fault {
         Fault::NoMemory
     }
 }
 
 impl From<Utf8Error> for Fault {
+    ghost from_gives = { λ _ fault. fault ≡ NotText };
+
     fn from(_error: Utf8Error) -> Fault {
         Fault::NotText
     }

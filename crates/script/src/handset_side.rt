@@ -3,7 +3,7 @@ ghost use Rattle.std.specs.Prelude.{◌≡◌, Some, None, OnErr};
 ghost use Rattle.script.specs.Answers.{OnTried};
 ghost use Rattle.script.specs.Sides.{taken, follow_of, resume_of, handset_after};
 
-use crate::answer::Reply;
+use crate::answer::Answer;
 use crate::command::Unit;
 use crate::memory::{Plane, Settings};
 use crate::undone::Undone;
@@ -18,7 +18,7 @@ pub struct HandsetSide {
 }
 
 impl HandsetSide {
-    pub fn follow(&mut self, settings: Settings, unit: &Unit) -> Result<Reply, Undone>
+    pub fn follow(&mut self, settings: Settings, unit: &Unit) -> Result<Answer, Undone>
         ensures unchanged { OnErr result (self.new ≡ self.old) }
         ensures answer { OnTried result (result ≡ taken (follow_of self.old settings unit.now)) }
         ensures after { OnTried result (self.new ≡ handset_after self.old (follow_of self.old settings unit.now) (Some unit.now.heading.coding)) }
@@ -30,10 +30,10 @@ impl HandsetSide {
             |handset, plane| handset.follow(&unit.kind, plane, unit.heading, levels),
         )??;
         self.last = Some(unit.heading.coding);
-        Ok(Reply::Taken(self.handset.count()))
+        Ok(Answer::Taken(self.handset.count()))
     }
 
-    pub fn resume(&mut self, settings: Settings, heading: Heading) -> Result<Reply, Undone>
+    pub fn resume(&mut self, settings: Settings, heading: Heading) -> Result<Answer, Undone>
         ensures unchanged { OnErr result (self.new ≡ self.old) }
         ensures answer { OnTried result (result ≡ taken (resume_of self.old settings heading)) }
         ensures after { OnTried result (self.new ≡ handset_after self.old (resume_of self.old settings heading) None) }
@@ -44,6 +44,6 @@ impl HandsetSide {
             |handset, plane| handset.resume(plane, heading),
         )??;
         self.last = None;
-        Ok(Reply::Taken(self.handset.count()))
+        Ok(Answer::Taken(self.handset.count()))
     }
 }

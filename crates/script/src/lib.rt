@@ -1,5 +1,5 @@
 // A script that drives both ends of the monitor: one command a line, one answer a command.
-// parse reads a line into a command, session runs it, answer and fault write the text of what came of it.
+// parse reads a line into a command, session runs it, answer, undone and fault write the text of what came of it.
 // A line in error, and a call that is refused, leaves the session as it was.
 #![tactic(auto)]
 
@@ -17,6 +17,7 @@ mod session;
 mod tile;
 mod undone;
 
-pub use answer::{Answer, Reply};
+pub use answer::Answer;
 pub use fault::Fault;
 pub use session::Session;
+pub use undone::Undone;

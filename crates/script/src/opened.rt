@@ -2,7 +2,7 @@
 ghost use Rattle.std.specs.Prelude.{◌≡◌, IfOk, OnErr};
 ghost use Rattle.script.specs.Answers.{count_of, page_of, samples_of, shown_plane};
 
-use crate::answer::Reply;
+use crate::answer::Answer;
 use crate::camera_side::CameraSide;
 use crate::command::{End, EndsCommand};
 use crate::handset_side::HandsetSide;
@@ -24,7 +24,7 @@ impl Opened {
         heap: Global,
         settings: Settings,
         command: EndsCommand,
-    ) -> Result<Reply, Undone>
+    ) -> Result<Answer, Undone>
         ensures unchanged { OnErr result (self.new ≡ self.old) }
     {
         match command {
@@ -42,34 +42,34 @@ impl Opened {
         }
     }
 
-    fn plane(&self, heap: Global, end: End) -> Result<Reply, AllocError>
+    fn plane(&self, heap: Global, end: End) -> Result<Answer, AllocError>
         ensures { IfOk result (λ reply. samples_of reply ≡ shown_plane self.now end) }
     {
         let samples = match end {
             End::Camera => self.camera.samples(),
             End::Handset => self.handset.plane.samples(),
         };
-        Ok(Reply::Plane {
+        Ok(Answer::Plane {
             size: self.size,
             samples: Vec::from_slice(heap, samples)?,
         })
     }
 
-    fn count(&self, end: End) -> Reply
+    fn count(&self, end: End) -> Answer
         ensures { result ≡ count_of self.now end }
     {
         let count = match end {
             End::Camera => self.camera.count(),
             End::Handset => self.handset.handset.count(),
         };
-        Reply::Count(count)
+        Answer::Count(count)
     }
 
     // The service page shows the handset.
-    fn page(&self) -> Reply
+    fn page(&self) -> Answer
         ensures { result ≡ page_of self.now }
     {
-        Reply::Page {
+        Answer::Page {
             count: self.handset.handset.count(),
             last: self.handset.last,
         }

@@ -1,9 +1,8 @@
 // A run of a script: the settings, and the ends once they are open.
-ghost use Rattle.std.specs.Prelude.{◌≡◌, true, OnErr};
-ghost use Rattle.script.specs.Answers.{idle_line};
+ghost use Rattle.std.specs.Prelude.{◌≡◌, Ok, None, OnErr};
 ghost use Rattle.script.specs.State.{at_first, with_memory, with_room};
 
-use crate::answer::{Answer, Reply};
+use crate::answer::Answer;
 use crate::camera_side::CameraSide;
 use crate::command::{Amount, Command, End, MOST_MEMORY};
 use crate::fault::Fault;
@@ -40,20 +39,17 @@ impl Session {
     }
 
     // What a line answers, or none where it holds no command.
-    pub fn answer_line(&mut self, line: &[u8]) -> Result<Option<Answer>, Fault>
-        ensures unchanged { idle_line result ≡ true → self.new ≡ self.old }
+    pub fn answer_line(&mut self, line: &[u8]) -> Result<Option<Answer>, Undone>
+        ensures unchanged { OnErr result (self.new ≡ self.old) }
+        ensures no_command { result ≡ Ok None → self.new ≡ self.old }
     {
-        let Some(command) = parse_line(self.heap, line)? else {
-            return Ok(None);
-        };
-        match self.run(command) {
-            Ok(reply) => Ok(Some(Answer::Done(reply))),
-            Err(Undone::Refused(refusal)) => Ok(Some(Answer::Refused(refusal))),
-            Err(Undone::InError(fault)) => Err(fault),
+        match parse_line(self.heap, line)? {
+            Some(command) => Ok(Some(self.run(command)?)),
+            None => Ok(None),
         }
     }
 
-    fn run(&mut self, command: Command) -> Result<Reply, Undone>
+    fn run(&mut self, command: Command) -> Result<Answer, Undone>
         ensures unchanged { OnErr result (self.new ≡ self.old) }
     {
         match command {
@@ -81,7 +77,7 @@ impl Session {
     }
 
     // Both ends anew. Where one is refused, the earlier ones stay.
-    fn open(&mut self, size: Size, first: u32) -> Result<Reply, Undone>
+    fn open(&mut self, size: Size, first: u32) -> Result<Answer, Undone>
         ensures unchanged { OnErr result (self.new ≡ self.old) }
     {
         let mut camera_plane = new_plane(self.heap, size, self.settings.camera)?;
@@ -97,26 +93,26 @@ impl Session {
                 last: None,
             },
         });
-        Ok(Reply::Opened { size, first })
+        Ok(Answer::Opened { size, first })
     }
 
-    fn set_memory(&mut self, end: End, amount: Amount) -> Reply
-        ensures answer { result ≡ Reply.Memory end amount }
+    fn set_memory(&mut self, end: End, amount: Amount) -> Answer
+        ensures answer { result ≡ Answer.Memory end amount }
         ensures after { self.new ≡ with_memory self.old end amount }
     {
         match end {
             End::Camera => self.settings.camera = amount,
             End::Handset => self.settings.handset = amount,
         }
-        Reply::Memory(end, amount)
+        Answer::Memory(end, amount)
     }
 
-    fn set_room(&mut self, amount: Amount) -> Reply
-        ensures answer { result ≡ Reply.Room amount }
+    fn set_room(&mut self, amount: Amount) -> Answer
+        ensures answer { result ≡ Answer.Room amount }
         ensures after { self.new ≡ with_room self.old amount }
     {
         self.settings.room = amount;
-        Reply::Room(amount)
+        Answer::Room(amount)
     }
 }
 

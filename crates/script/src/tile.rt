@@ -4,7 +4,7 @@ ghost use Rattle.std.specs.Prelude.{◌≡◌, ◌<◌, ◌≤◌, length, Match
 ghost use Rattle.kinds.specs.Meaning.{Differences, area};
 ghost use Rattle.script.specs.Kinds.{meaning_of};
 
-use crate::answer::Reply;
+use crate::answer::Answer;
 use crate::fault::Fault;
 use crate::kind::KindName;
 use crate::undone::Undone;
@@ -17,7 +17,7 @@ pub fn levels(
     qp: u8,
     sort: Sort,
     residual: &[i16],
-) -> Result<Reply, Undone> {
+) -> Result<Answer, Undone> {
     check_qp(qp)?;
     check_count(kind, residual)?;
     check_differences(residual)?;
@@ -30,20 +30,20 @@ pub fn levels(
         levels.as_mut_slice(),
         reconstruction.as_mut_slice(),
     )?;
-    Ok(Reply::Levels(levels))
+    Ok(Answer::Levels(levels))
 }
 
-pub fn rebuild(heap: Global, kind: KindName, qp: u8, levels: &[i16]) -> Result<Reply, Undone> {
+pub fn rebuild(heap: Global, kind: KindName, qp: u8, levels: &[i16]) -> Result<Answer, Undone> {
     check_qp(qp)?;
     check_count(kind, levels)?;
     let mut residual = vec![in heap; 0i16; levels.len()]?;
     kind.reconstruct(qp, levels, residual.as_mut_slice())?;
-    Ok(Reply::Residual(residual))
+    Ok(Answer::Residual(residual))
 }
 
-pub fn distance(kind: KindName, qp: u8, sort: Sort) -> Result<Reply, Undone> {
+pub fn distance(kind: KindName, qp: u8, sort: Sort) -> Result<Answer, Undone> {
     check_qp(qp)?;
-    Ok(Reply::Distance(kind.distance(qp, sort)))
+    Ok(Answer::Distance(kind.distance(qp, sort)))
 }
 
 fn check_qp(qp: u8) -> Result<(), Fault>
@@ -68,12 +68,11 @@ fn check_count(kind: KindName, numbers: &[i16]) -> Result<(), Fault>
 fn check_differences(residual: &[i16]) -> Result<(), Fault>
     ensures { OnOk result (Differences residual.now) }
 {
-    if residual
+    if !residual
         .iter()
-        .all(|difference| -255 <= *difference && *difference <= 255)
+        .all(|difference| (-255..=255).contains(difference))
     {
-        Ok(())
-    } else {
-        Err(Fault::NotDifference)
+        return Err(Fault::NotDifference);
     }
+    Ok(())
 }
