@@ -1,6 +1,6 @@
 // The camera with its plane, and all that it has given out.
 // Each call finds its memory made before it: once the camera has answered, nothing can fail.
-ghost use Rattle.std.specs.Prelude.{◌≡◌, length, OnErr};
+ghost use Rattle.std.specs.Prelude.{◌≡◌, [], length, slice_get, Some, IfOk, OnErr};
 ghost use Rattle.script.specs.Answers.{OnTried};
 ghost use Rattle.script.specs.Sides.{restart_of, restart_answer, restart_after};
 
@@ -39,7 +39,9 @@ impl Model for CameraSide {
 
 impl CameraSide {
     // A camera that has given out nothing.
-    pub fn new(heap: Global, camera: Camera, plane: Plane) -> CameraSide {
+    pub fn new(heap: Global, camera: Camera, plane: Plane) -> CameraSide
+        ensures { result ≡ record { camera = camera; plane = plane; given = [] } }
+    {
         CameraSide {
             camera,
             plane,
@@ -60,7 +62,9 @@ impl CameraSide {
     }
 
     // The unit that was given out as `index`.
-    pub fn unit(&self, index: usize) -> Result<&Unit, Fault> {
+    pub fn unit(&self, index: usize) -> Result<&Unit, Fault>
+        ensures { IfOk result (λ unit. slice_get self.now.given index ≡ Some (Given.Unit unit.now)) }
+    {
         match self.given.get(index) {
             Some(Given::Unit(unit)) => Ok(unit),
             Some(Given::Restart(_)) => Err(Fault::NotUnit(index)),
@@ -69,7 +73,9 @@ impl CameraSide {
     }
 
     // The heading of the restart that was given out as `index`.
-    pub fn heading(&self, index: usize) -> Result<Heading, Fault> {
+    pub fn heading(&self, index: usize) -> Result<Heading, Fault>
+        ensures { IfOk result (λ heading. slice_get self.now.given index ≡ Some (Given.Restart heading)) }
+    {
         match self.given.get(index) {
             Some(Given::Restart(heading)) => Ok(*heading),
             Some(Given::Unit(_)) => Err(Fault::NotRestart(index)),
@@ -90,12 +96,18 @@ impl CameraSide {
         let mut levels = vec![in heap; 0i16; room]?;
         let mut shown = vec![in heap; 0i16; room]?;
         self.given.reserve(1)?;
-        let coding = source.coding;
-        let samples = source.samples.as_slice();
+        // The levels come back with the answer: of what a closure changes where it was, its caller knows nothing.
         let (coded, levels) = self
             .plane
             .lend(settings.camera, &mut self.camera, move |camera, plane| {
-                let coded = camera.code(&kind, plane, coding, samples, levels.as_mut_slice());
+                let samples = source.samples.as_slice();
+                let coded = camera.code(
+                    &kind,
+                    plane,
+                    source.coding,
+                    samples,
+                    levels.as_mut_slice(),
+                );
                 (coded, levels)
             })?;
         let heading = coded?;

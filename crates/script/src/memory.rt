@@ -42,7 +42,7 @@ impl Plane {
     }
 
     // Calls an end on the first bytes of its plane, with zero bytes behind the plane where it is shorter.
-    // The end is a parameter: of what a closure captured and changed, nothing is known after it was passed on.
+    // The end is a parameter: of what a closure changes where it was, its caller knows nothing.
     pub fn lend<E, R, F: FnOnce(&mut E, &mut [u8]) -> R>(
         &mut self,
         amount: Amount,

@@ -43,7 +43,7 @@ impl Opened {
     }
 
     fn plane(&self, heap: Global, end: End) -> Result<Answer, AllocError>
-        ensures { IfOk result (λ reply. samples_of reply ≡ shown_plane self.now end) }
+        ensures { IfOk result (λ answer. samples_of answer ≡ shown_plane self.now end) }
     {
         let samples = match end {
             End::Camera => self.camera.samples(),
