@@ -5,6 +5,7 @@ ghost use Rattle.script.specs.Memory.{handed};
 use crate::decimal::number;
 use crate::fault::Fault;
 use crate::kind::KindName;
+use crate::kind_at::KindAt;
 use ends::{Coding, Heading, Size};
 use kinds::Sort;
 use std::fmt;
@@ -25,19 +26,16 @@ pub enum Command {
     Memory(End, Amount),
     Room(Amount),
     Levels {
-        kind: KindName,
-        qp: u8,
+        kind: KindAt,
         sort: Sort,
         residual: Vec<i16>,
     },
     Rebuild {
-        kind: KindName,
-        qp: u8,
+        kind: KindAt,
         levels: Vec<i16>,
     },
     Distance {
-        kind: KindName,
-        qp: u8,
+        kind: KindAt,
         sort: Sort,
     },
     OfEnds(EndsCommand),

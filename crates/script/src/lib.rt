@@ -10,11 +10,11 @@ mod decimal;
 mod fault;
 mod handset_side;
 mod kind;
+mod kind_at;
 mod memory;
 mod opened;
 mod parse;
 mod session;
-mod tile;
 mod undone;
 
 pub use answer::Answer;

@@ -2,6 +2,7 @@
 use crate::command::{Amount, Command, EndsCommand, MOST_MEMORY, MOST_NUMBERS, Source, Unit};
 use crate::decimal::{number, numbers};
 use crate::fault::Fault;
+use crate::kind_at::KindAt;
 use ends::{Coding, Heading, Size};
 use kinds::Sort;
 use std::alloc::{AllocError, Global};
@@ -31,19 +32,16 @@ fn command(heap: Global, words: &[&str]) -> Result<Command, Fault> {
         )),
         ["room", levels] => Ok(Command::Room(levels.parse::<Amount>()?.up_to(MOST_NUMBERS)?)),
         ["levels", kind, qp, name, ":", residual @ ..] => Ok(Command::Levels {
-            kind: kind.parse()?,
-            qp: number(qp, "QP")?,
+            kind: kind_at(kind, qp)?,
             sort: sort(name)?,
             residual: numbers(heap, residual)?,
         }),
         ["rebuild", kind, qp, ":", levels @ ..] => Ok(Command::Rebuild {
-            kind: kind.parse()?,
-            qp: number(qp, "QP")?,
+            kind: kind_at(kind, qp)?,
             levels: numbers(heap, levels)?,
         }),
         ["distance", kind, qp, name] => Ok(Command::Distance {
-            kind: kind.parse()?,
-            qp: number(qp, "QP")?,
+            kind: kind_at(kind, qp)?,
             sort: sort(name)?,
         }),
         _ => Ok(Command::OfEnds(ends_command(heap, words)?)),
@@ -106,6 +104,13 @@ fn open(width: &str, height: &str, first: &str) -> Result<Command, Fault> {
     Ok(Command::Open {
         size,
         first: number(first, "FIRST")?,
+    })
+}
+
+fn kind_at(kind: &str, qp: &str) -> Result<KindAt, Fault> {
+    Ok(KindAt {
+        kind: kind.parse()?,
+        qp: number(qp, "QP")?,
     })
 }
 

@@ -10,7 +10,6 @@ use crate::handset_side::HandsetSide;
 use crate::memory::{Plane, Settings};
 use crate::opened::Opened;
 use crate::parse::parse_line;
-use crate::tile;
 use crate::undone::Undone;
 use ends::{Camera, Handset, Size};
 use std::alloc::{AllocError, Global};
@@ -58,17 +57,11 @@ impl Session {
             Command::Room(amount) => Ok(self.set_room(amount)),
             Command::Levels {
                 kind,
-                qp,
                 sort,
                 residual,
-            } => tile::levels(self.heap, kind, qp, sort, residual.as_slice()),
-            Command::Rebuild { kind, qp, levels } => tile::rebuild(
-                self.heap,
-                kind,
-                qp,
-                levels.as_slice(),
-            ),
-            Command::Distance { kind, qp, sort } => tile::distance(kind, qp, sort),
+            } => kind.levels(self.heap, sort, residual.as_slice()),
+            Command::Rebuild { kind, levels } => kind.rebuild(self.heap, levels.as_slice()),
+            Command::Distance { kind, sort } => kind.distance(sort),
             Command::OfEnds(command) => match &mut self.opened {
                 Some(opened) => opened.run(self.heap, self.settings, command),
                 None => Err(Undone::InError(Fault::NotOpen)),
