@@ -45,6 +45,7 @@ pub fn numbers<T: Decimal>(heap: Global, words: &[&str]) -> Result<Vec<T>, Fault
     ensures { IfOk result (λ numbers. vec_len numbers ≤ 4096) }
 {
     let mut numbers = Vec::new(heap);
+    // No chain: its closure would have to carry the list, the limit and two ways to fail.
     for word in words {
         let (value, times) = repeated(word)?;
         let count = numbers.len().saturating_add(times);
