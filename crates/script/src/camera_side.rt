@@ -96,7 +96,7 @@ impl CameraSide {
         let mut levels = vec![in heap; 0i16; room]?;
         let mut shown = vec![in heap; 0i16; room]?;
         self.given.reserve(1)?;
-        // The levels come back with the answer: of what a closure changes where it was, its caller knows nothing.
+        // The levels come back with the answer: of a changed capture, nothing is known after the call.
         let (coded, levels) = self
             .plane
             .lend(settings.camera, &mut self.camera, move |camera, plane| {

@@ -42,7 +42,7 @@ impl Plane {
     }
 
     // Calls an end on the first bytes of its plane, with zero bytes behind the plane where it is shorter.
-    // The end is a parameter: of what a closure changes where it was, its caller knows nothing.
+    // The end is a parameter: of a capture that a closure changed, nothing is known after the call.
     pub fn lend<E, R, F: FnOnce(&mut E, &mut [u8]) -> R>(
         &mut self,
         amount: Amount,
