@@ -11,13 +11,42 @@ use ends::{Coding, Handset, Heading};
 
 #[derive(Drop)]
 pub struct HandsetSide {
-    pub handset: Handset,
-    pub plane: Plane,
+    handset: Handset,
+    plane: Plane,
     // none since it was opened or resumed
-    pub last: Option<Coding>,
+    last: Option<Coding>,
 }
 
 impl HandsetSide {
+    // A handset that has taken nothing.
+    pub fn new(handset: Handset, plane: Plane) -> HandsetSide
+        ensures { result ≡ record { handset = handset; plane = plane; last = None } }
+    {
+        HandsetSide {
+            handset,
+            plane,
+            last: None,
+        }
+    }
+
+    pub fn count(&self) -> u32
+        ensures { result ≡ self.now.handset.end.count }
+    {
+        self.handset.count()
+    }
+
+    pub fn samples(&self) -> &[u8]
+        ensures { result.now ≡ self.now.plane }
+    {
+        self.plane.samples()
+    }
+
+    pub fn last(&self) -> Option<Coding>
+        ensures { result ≡ self.now.last }
+    {
+        self.last
+    }
+
     pub fn follow(&mut self, settings: Settings, unit: &Unit) -> Result<Answer, Undone>
         ensures unchanged { OnErr result (self.new ≡ self.old) }
         ensures answer { OnTried result (result ≡ taken (follow_of self.old settings unit.now)) }
@@ -30,7 +59,7 @@ impl HandsetSide {
             |handset, plane| handset.follow(&unit.kind, plane, unit.heading, levels),
         )??;
         self.last = Some(unit.heading.coding);
-        Ok(Answer::Taken(self.handset.count()))
+        Ok(Answer::Taken(self.count()))
     }
 
     pub fn resume(&mut self, settings: Settings, heading: Heading) -> Result<Answer, Undone>
@@ -44,6 +73,6 @@ impl HandsetSide {
             |handset, plane| handset.resume(plane, heading),
         )??;
         self.last = None;
-        Ok(Answer::Taken(self.handset.count()))
+        Ok(Answer::Taken(self.count()))
     }
 }

@@ -47,7 +47,7 @@ impl Opened {
     {
         let samples = match end {
             End::Camera => self.camera.samples(),
-            End::Handset => self.handset.plane.samples(),
+            End::Handset => self.handset.samples(),
         };
         Ok(Answer::Plane {
             size: self.size,
@@ -60,7 +60,7 @@ impl Opened {
     {
         let count = match end {
             End::Camera => self.camera.count(),
-            End::Handset => self.handset.handset.count(),
+            End::Handset => self.handset.count(),
         };
         Answer::Count(count)
     }
@@ -70,8 +70,8 @@ impl Opened {
         ensures { result ≡ page_of self.now }
     {
         Answer::Page {
-            count: self.handset.handset.count(),
-            last: self.handset.last,
+            count: self.handset.count(),
+            last: self.handset.last(),
         }
     }
 }

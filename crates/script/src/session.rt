@@ -80,11 +80,7 @@ impl Session {
         self.opened = Some(Opened {
             size,
             camera: CameraSide::new(self.heap, camera, Plane::new(camera_plane)),
-            handset: HandsetSide {
-                handset,
-                plane: Plane::new(handset_plane),
-                last: None,
-            },
+            handset: HandsetSide::new(handset, Plane::new(handset_plane)),
         });
         Ok(Answer::Opened { size, first })
     }
