@@ -1,5 +1,5 @@
 -- What the answers say.
-use Rattle.std.specs.Prelude.{ℕ, List, Some, None, Ok, Err, vec_items, Option, Result, ⊤}
+use Rattle.std.specs.Prelude.{ℕ, Bool, true, false, List, Some, None, Ok, Err, vec_items, Option, Result, ⊤}
 use Rattle.ends.specs.declared.plane.Size.{Size}
 use Rattle.script.specs.declared.answer.Answer.{Answer}
 use Rattle.script.specs.declared.answer.Answer.TheVariants as gives
@@ -8,6 +8,12 @@ use Rattle.script.specs.declared.command.End.TheVariants.{Camera, Handset}
 use Rattle.script.specs.declared.opened.Opened.{Opened}
 use Rattle.script.specs.declared.undone.Undone.{Undone}
 use Rattle.script.specs.declared.undone.Undone.TheVariants.{Refused, InError}
+
+-- a line did nothing: it held no command, or one that was refused or in error
+abbrev pub idle_line : Result (Option Answer) Undone → Bool
+idle_line (Ok (Some answer)) = false
+idle_line (Ok None) = true
+idle_line (Err undone) = true
 
 -- P, if no error kept the command from its call, which was then taken or refused
 abbrev pub OnTried : Result Answer Undone → Type 0 → Type 0

@@ -1,5 +1,6 @@
 // A run of a script: the settings, and the ends once they are open.
-ghost use Rattle.std.specs.Prelude.{◌≡◌, Ok, None, OnErr};
+ghost use Rattle.std.specs.Prelude.{◌≡◌, true, OnErr};
+ghost use Rattle.script.specs.Answers.{idle_line};
 ghost use Rattle.script.specs.State.{at_first, with_memory, with_room};
 
 use crate::answer::Answer;
@@ -39,8 +40,7 @@ impl Session {
 
     // What a line answers, or none where it holds no command.
     pub fn answer_line(&mut self, line: &[u8]) -> Result<Option<Answer>, Undone>
-        ensures unchanged { OnErr result (self.new ≡ self.old) }
-        ensures no_command { result ≡ Ok None → self.new ≡ self.old }
+        ensures unchanged { idle_line result ≡ true → self.new ≡ self.old }
     {
         match parse_line(self.heap, line)? {
             Some(command) => Ok(Some(self.run(command)?)),
