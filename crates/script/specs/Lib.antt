@@ -4,4 +4,3 @@ pub mod Kinds
 pub mod Memory
 pub mod Sides
 pub mod State
-pub mod Texts

@@ -3,7 +3,7 @@ ghost use Rattle.script.specs.Kinds.{meaning_of};
 ghost use Rattle.std.proofs.Common.{rules};
 
 use crate::fault::Fault;
-use kinds::{Exact, Kind, Sort, WidthFault};
+use kinds::{Exact, Kind, Qp, Sort, WidthFault};
 use std::str::FromStr;
 
 #[derive(Clone, Copy)]
@@ -50,7 +50,7 @@ impl Kind for KindName {
 
     fn levels(
         &self,
-        qp: u8,
+        qp: Qp,
         sort: Sort,
         residual: &[i16],
         levels: &mut [i16],
@@ -61,14 +61,14 @@ impl Kind for KindName {
 
     fn reconstruct(
         &self,
-        qp: u8,
+        qp: Qp,
         levels: &[i16],
         reconstruction: &mut [i16],
     ) -> Result<(), WidthFault> {
         ask!(self, kind => kind.reconstruct(qp, levels, reconstruction))
     }
 
-    fn distance(&self, qp: u8, sort: Sort) -> u32 {
+    fn distance(&self, qp: Qp, sort: Sort) -> u32 {
         ask!(self, kind => kind.distance(qp, sort))
     }
 }

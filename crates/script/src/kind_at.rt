@@ -1,6 +1,6 @@
 // What is asked of a kind itself. A kind presumes a QP up to 51, as many numbers as its tile has samples,
 // and a residual in -255..255: anything else is a fault here.
-ghost use Rattle.std.specs.Prelude.{◌≡◌, ◌<◌, ◌≤◌, length, MatchResult, OnOk};
+ghost use Rattle.std.specs.Prelude.{◌≡◌, length, OnOk};
 ghost use Rattle.kinds.specs.Meaning.{Differences, area};
 ghost use Rattle.script.specs.Kinds.{meaning_of};
 
@@ -8,7 +8,7 @@ use crate::answer::Answer;
 use crate::fault::Fault;
 use crate::kind::KindName;
 use crate::undone::Undone;
-use kinds::{Kind, Sort};
+use kinds::{Kind, Qp, Sort};
 use std::alloc::Global;
 
 // A kind, asked at a QP that is as yet unchecked.
@@ -20,13 +20,13 @@ pub struct KindAt {
 
 impl KindAt {
     pub fn levels(self, heap: Global, sort: Sort, residual: &[i16]) -> Result<Answer, Undone> {
-        self.check_qp()?;
+        let qp = Qp::try_from(self.qp)?;
         self.check_count(residual)?;
         check_differences(residual)?;
         let mut levels = vec![in heap; 0i16; residual.len()]?;
         let mut reconstruction = vec![in heap; 0i16; residual.len()]?;
         self.kind.levels(
-            self.qp,
+            qp,
             sort,
             residual,
             levels.as_mut_slice(),
@@ -36,26 +36,17 @@ impl KindAt {
     }
 
     pub fn rebuild(self, heap: Global, levels: &[i16]) -> Result<Answer, Undone> {
-        self.check_qp()?;
+        let qp = Qp::try_from(self.qp)?;
         self.check_count(levels)?;
         let mut residual = vec![in heap; 0i16; levels.len()]?;
         self.kind
-            .reconstruct(self.qp, levels, residual.as_mut_slice())?;
+            .reconstruct(qp, levels, residual.as_mut_slice())?;
         Ok(Answer::Residual(residual))
     }
 
     pub fn distance(self, sort: Sort) -> Result<Answer, Undone> {
-        self.check_qp()?;
-        Ok(Answer::Distance(self.kind.distance(self.qp, sort)))
-    }
-
-    fn check_qp(self) -> Result<(), Fault>
-        ensures { MatchResult result (λ _. self.qp ≤ 51) (λ _. 51 < self.qp) }
-    {
-        if self.qp > 51 {
-            return Err(Fault::QpAbove);
-        }
-        Ok(())
+        let qp = Qp::try_from(self.qp)?;
+        Ok(Answer::Distance(self.kind.distance(qp, sort)))
     }
 
     fn check_count(self, numbers: &[i16]) -> Result<(), Fault>

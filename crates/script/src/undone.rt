@@ -1,13 +1,12 @@
 // Why a line did nothing: its call was refused, or it was in error.
 ghost use Rattle.std.specs.Prelude.{◌≡◌};
 ghost use Rattle.ends.specs.declared.refusal.Refusal.TheVariants as no;
-ghost use Rattle.script.specs.declared.fault.Fault.TheVariants.{NoMemory};
+ghost use Rattle.script.specs.declared.fault.Fault.TheVariants.{NoMemory, QpAbove};
 ghost use Rattle.script.specs.declared.undone.Undone.TheVariants.{Refused, InError};
-ghost use Rattle.script.specs.Texts.{word_of};
 
 use crate::fault::Fault;
 use ends::Refusal;
-use kinds::WidthFault;
+use kinds::{QpFault, WidthFault};
 use std::alloc::AllocError;
 use std::fmt;
 
@@ -20,7 +19,7 @@ pub enum Undone {
 impl fmt::Display for Undone {
     fn fmt<W: fmt::Write>(&self, f: &mut fmt::Formatter<W>) -> fmt::Result {
         match self {
-            Undone::Refused(why) => write!(f, "refused {}: {}", why.number(), word(*why)),
+            Undone::Refused(why) => write!(f, "refused {}: {why}", why.number()),
             Undone::InError(what) => write!(f, "{what}"),
         }
     }
@@ -43,6 +42,15 @@ impl From<WidthFault> for Undone {
     }
 }
 
+// A number that is no QP never reaches a kind that is asked by itself.
+impl From<QpFault> for Undone {
+    ghost from_gives = { λ _ undone. undone ≡ InError QpAbove };
+
+    fn from(_fault: QpFault) -> Undone {
+        Undone::InError(Fault::QpAbove)
+    }
+}
+
 impl From<Fault> for Undone {
     ghost from_gives = { λ fault undone. undone ≡ InError fault };
 
@@ -56,24 +64,5 @@ impl From<AllocError> for Undone {
 
     fn from(_error: AllocError) -> Undone {
         Undone::InError(Fault::NoMemory)
-    }
-}
-
-fn word(refusal: Refusal) -> &'static str
-    ensures { result.now ≡ word_of refusal }
-{
-    match refusal {
-        Refusal::Size => "size",
-        Refusal::Plane => "plane",
-        Refusal::Count => "count",
-        Refusal::Tag => "tag",
-        Refusal::Late => "late",
-        Refusal::Early => "early",
-        Refusal::Qp => "qp",
-        Refusal::Mode => "mode",
-        Refusal::Place => "place",
-        Refusal::Length => "length",
-        Refusal::Border => "border",
-        Refusal::Width => "width",
     }
 }
