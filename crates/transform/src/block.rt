@@ -1,5 +1,7 @@
 // Blocks of N by N numbers, as arrays of rows by value, and tiles in memory that hold one row by row.
-// A row is made by the array's own `map`; a block is not, since that moves each of its rows twice.
+// A row is made by the array's own `map`; a block is not, since that moves each of its rows twice. A const parameter
+// carries no fact, so that N is small stands in each contract; a type round the arrays would have to be taken off for
+// every pass.
 ghost use Rattle.std.specs.Prelude.{◌≡◌, ℕ, ◌+◌, ◌*◌, ◌<◌, ◌≤◌, length, pos, ◌+ℤ◌, FitsSigned, unsigned_abs};
 ghost use Rattle.std.specs.Int.{w16};
 ghost use Rattle.std.specs.Int.Signed.{shr_z};

@@ -40,6 +40,7 @@ pub trait Transform<const N: usize> {
         ensures { result ≡ products transform x.entry };
 
     // Every column passed, as a row, as the rows of a block pass: a result has 16 bits.
+    // Rows and columns have a method each, since a trait's method takes no const parameter.
     fn pass_rows(m: [[i16; N]; N]) -> Option<[[i16; N]; N]>
         ensures { result ≡ passed transform largest m.entry };
 
@@ -48,6 +49,7 @@ pub trait Transform<const N: usize> {
         ensures { result ≡ passed transform largest_column m.entry };
 
     // How far a sample of a block may come back from the one that was coded.
+    // Each transform writes its own: weights and two constants are all that there is to it.
     fn distance(qp: Qp, sort: Sort) -> u32
         ensures { result ≡ limit qp sort };
 

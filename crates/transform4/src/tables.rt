@@ -24,6 +24,7 @@ const FACTORS: [[u32; 3]; 6] = [
     [18, 29, 23],
 ];
 
+// One line over each table, in both transforms: a common one would have to be handed the table and its definition.
 pub fn multipliers(qp: Qp) -> [u32; 3]
     ensures value { result ≡ slice_index_or multipliers4 (qp % 6) [] }
     ensures small { Below3 13107 result }

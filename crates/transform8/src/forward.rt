@@ -23,7 +23,8 @@ pub fn multiply_columns(x: [[i32; 8]; 8]) -> [[i32; 8]; 8]
     )
 }
 
-// C times a line, by the left half of C.
+// C times a line, by the left half of C. That the numbers are small stands here and in its two parts: a type round
+// eight numbers would be taken off at once.
 fn forward_line(x: [i32; 8]) -> [i32; 8]
     requires { Sized 2097152 x }
     ensures { result ≡ forward_line x }

@@ -14,6 +14,7 @@ pub fn pass_columns<const MOST: i32>(m: [[i16; 8]; 8]) -> Option<[[i16; 8]; 8]>
     requires { MOST ≤ℤ largest }
     ensures { result ≡ passed eight MOST m }
 {
+    // By number, since lines and flag grow together. A line that is an Option, left by `?`, takes twice the time.
     let mut passed = [[0i32; 8]; 8];
     let mut fits = true;
     for j in 0..8 {

@@ -25,6 +25,7 @@ const FACTORS: [[u32; 6]; 6] = [
     [36, 32, 58, 34, 46, 43],
 ];
 
+// One line over each table, in both transforms: a common one would have to be handed the table and its definition.
 pub fn multipliers(qp: Qp) -> [u32; 6]
     ensures value { result ≡ slice_index_or multipliers8 (qp % 6) [] }
     ensures small { Below6 20972 result }
