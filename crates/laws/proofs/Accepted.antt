@@ -6,12 +6,10 @@ use Rattle.laws.specs.Widths.{largest, largest_column, fits, held, then, all}
 use Rattle.laws.specs.Transform.{Transform, class_at, rescaled, rescaled_block, rows_passed, columns_passed, rounded, inverse, reconstructed}
 use Rattle.laws.proofs.Lists.{at_from, row_from, cells_block, from_same, block_same}
 use Rattle.laws.proofs.Inverts.{untested}
+use Rattle.laws.proofs.Steps.{none_some}
 
 pub some_same : {A : Type 0} {a b : A} → Some a ≡ Some b → a ≡ b
 some_same {A} {a} {b} e = cc
-
-none_some : {A X : Type 0} {a : A} → None ≡ Some a → X
-none_some {A} {X} {a} e = absurd (let z : ◌≡◌ {A = ℕ} 0 1 = cc in omega arith)
 
 pub then_out : {A B : Type 0} (o : Option A) (next : A → Option B) {b : B} → then o next ≡ Some b → (a : A) × (o ≡ Some a) × (next a ≡ Some b)
 then_out None next e = none_some e

@@ -2,7 +2,7 @@
 use Rattle.std.proofs.Common.{ℕ, zero, suc, ◌%◌, ◌<◌, arith, lit<}
 use Rattle.std.proofs.lemmas.Nat.{mod_below}
 
-at4 : (P : ℕ → Type 0) → P 0 → P 1 → P 2 → P 3 → (i : ℕ) → i < 4 → P i
+pub at4 : (P : ℕ → Type 0) → P 0 → P 1 → P 2 → P 3 → (i : ℕ) → i < 4 → P i
 at4 P p q r s zero h = p
 at4 P p q r s (suc zero) h = q
 at4 P p q r s (suc (suc zero)) h = r

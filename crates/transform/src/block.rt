@@ -1,7 +1,7 @@
 // Blocks of N by N numbers, as arrays of rows by value, and tiles in memory that hold one row by row.
-// A row is made by the array's own `map`; a block is not, since that moves each of its rows twice. A const parameter
-// carries no fact, so that N is small stands in each contract; a type round the arrays would have to be taken off for
-// every pass.
+// Lines are made by the array's own `map` or `from_fn`. Blocks are made by `from_fn` alone: `map` moves each line twice, and
+// took twice the time for 8 by 8. That N is small stands in each contract: a bound could carry it, as the trait
+// Transform's `small` does, but would need a type parameter that no argument fixes.
 ghost use Rattle.std.specs.Prelude.{◌≡◌, ℕ, ◌+◌, ◌*◌, ◌<◌, ◌≤◌, length, pos, ◌+ℤ◌, FitsSigned, unsigned_abs};
 ghost use Rattle.std.specs.Int.{w16};
 ghost use Rattle.std.specs.Int.Signed.{shr_z};
@@ -11,6 +11,11 @@ ghost use Rattle.transform.specs.Columns.{cell_or, column_or};
 ghost use Rattle.transform.specs.Inner.{Sized, SizedLine, Short, ShortLine};
 
 use std::array;
+
+// The largest number of 16 bits, and the largest result of a column, to which the last rounding adds 32.
+pub const LARGEST: i32 = 32767;
+
+pub const LARGEST_COLUMN: i32 = 32735;
 
 // A block of 16 bits in 32 bits.
 pub fn widened<const N: usize>(m: [[i16; N]; N]) -> [[i32; N]; N]
@@ -73,7 +78,7 @@ pub fn held<const N: usize>(m: [[i32; N]; N]) -> Option<[[i16; N]; N]>
     requires { N ≤ 16 }
     ensures { result ≡ all (from (λ i. held_line N largest (row m.entry i)) 0 N) }
 {
-    if block_fits(&m, 32767) {
+    if block_fits(&m, LARGEST) {
         Some(shortened(m))
     } else {
         None
@@ -161,7 +166,7 @@ pub fn column<T: Copy, const N: usize>(m: &[[T; N]; N], j: usize) -> [T; N]
     )
 }
 
-// A tile as a block.
+// A tile as a block. That a tile has N * N numbers stands in each contract: no array type has that length.
 pub fn read<const N: usize>(tile: &[i16]) -> [[i16; N]; N]
     requires small { N ≤ 16 }
     requires length { length tile.now ≡ N * N }
@@ -195,6 +200,7 @@ pub fn write<const N: usize>(m: &[[i16; N]; N], tile: &mut [i16])
     requires length { length tile.old ≡ N * N }
     ensures { tile.new ≡ row_by_row N (cells m.now) }
 {
+    // By number: after a loop over chunks_exact_mut the check knows no element.
     for (i, line) in m.iter().enumerate() {
         write_line(line, tile, i);
     }

@@ -9,7 +9,10 @@ mod rescaling;
 mod steps;
 mod transform;
 
-pub use block::{block_fits, column, line_fits, read, shortened, transposed, wide, widened, write};
+pub use block::{
+    LARGEST, LARGEST_COLUMN, block_fits, column, line_fits, read, shortened, transposed, wide,
+    widened, write,
+};
 pub use quantiser::Quantiser;
 pub use rescaling::Rescaling;
 pub use steps::{forward_transform, inverse_transform, quantise, reconstruct, rescale};

@@ -53,7 +53,7 @@ pub trait Transform<const N: usize> {
     fn distance(qp: Qp, sort: Sort) -> u32
         ensures { result ≡ limit qp sort };
 
-    ghost edge: { N ≤ 16 };
+    ghost small: { N ≤ 16 };
 
     ghost points: { transform.points ≡ N };
 

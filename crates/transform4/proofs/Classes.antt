@@ -2,14 +2,8 @@
 use Rattle.std.proofs.Common.{◌≡◌, ℕ, zero, suc, ◌%◌, ◌<◌, refl, arith}
 use Rattle.laws.specs.Four.{class4}
 use Rattle.transform.specs.Pattern.{pattern_at}
+use Rattle.transform.proofs.Places.{at4}
 use Rattle.transform4.specs.Inner.{pattern}
-
-at4 : (P : ℕ → Type 0) → P 0 → P 1 → P 2 → P 3 → (i : ℕ) → i < 4 → P i
-at4 P p q r s zero h = p
-at4 P p q r s (suc zero) h = q
-at4 P p q r s (suc (suc zero)) h = r
-at4 P p q r s (suc (suc (suc zero))) h = s
-at4 P p q r s (suc (suc (suc (suc i)))) h = absurd (omega arith)
 
 -- the class of a place chooses its number
 pub pattern_is : (f : ℕ → ℕ) (i j : ℕ) → i < 4 → j < 4 → pattern_at (pattern (f 0) (f 1) (f 2)) i j ≡ f (class4 (i % 2) (j % 2))

@@ -11,7 +11,7 @@ use crate::lanes::{difference, sum};
 use transform::transposed;
 
 // C times each column, as a row.
-pub fn multiply_columns(x: [[i32; 4]; 4]) -> [[i32; 4]; 4]
+pub fn column_products(x: [[i32; 4]; 4]) -> [[i32; 4]; 4]
     requires { SizedBlock 4 2097152 x }
     ensures { result ≡ products four x }
 {

@@ -9,12 +9,12 @@ ghost use Rattle.transform.specs.Pattern.{stepped};
 ghost use Rattle.transform.specs.Passes.{products, passed};
 ghost use Rattle.transform.specs.Inner.{Sized};
 
-use crate::forward::multiply_columns;
-use crate::inverse::pass_columns;
-use crate::tables::{factors, multipliers, pattern, steps};
+use crate::forward::column_products;
+use crate::inverse::passed_columns;
+use crate::tables::{factor_row, multiplier_row, pattern, steps};
 use kinds::{Qp, Sort};
 use laws::error_sixths;
-use transform::{Rescaling, Transform};
+use transform::{LARGEST, LARGEST_COLUMN, Rescaling, Transform};
 
 #[derive(Clone, Copy)]
 pub struct Four;
@@ -31,7 +31,7 @@ impl Transform<4> for Four {
     const SHIFT: u32 = 15;
 
     fn multipliers(qp: Qp) -> [[u32; 4]; 4] {
-        pattern(multipliers(qp))
+        pattern(multiplier_row(qp))
     }
 
     // What a level is multiplied by is what the Recommendation writes with a rounding shift below QP 24.
@@ -50,29 +50,29 @@ impl Transform<4> for Four {
         requires { Sized 4 2097152 x }
         ensures { result ≡ products four x }
     {
-        multiply_columns(x)
+        column_products(x)
     }
 
     fn pass_rows(m: [[i16; 4]; 4]) -> Option<[[i16; 4]; 4]>
         ensures { result ≡ passed four largest m }
     {
-        pass_columns::<32767>(m)
+        passed_columns::<LARGEST>(m)
     }
 
     fn pass_columns(m: [[i16; 4]; 4]) -> Option<[[i16; 4]; 4]>
         ensures { result ≡ passed four largest_column m }
     {
-        pass_columns::<32735>(m)
+        passed_columns::<LARGEST_COLUMN>(m)
     }
 
     fn distance(qp: Qp, sort: Sort) -> u32 {
-        let [even, odd, mixed] = factors(qp);
+        let [even, odd, mixed] = factor_row(qp);
         let weighed = 16 * even + 9 * odd + 24 * mixed;
         let sixths = error_sixths(sort) << qp.doublings();
         (sixths * weighed + 1344) / 1536
     }
 
-    ghost edge = { lit≤ tt };
+    ghost small = { lit≤ tt };
 
     ghost points = { refl };
 

@@ -8,17 +8,17 @@ ghost use Rattle.transform.specs.Passes.{passed};
 ghost use Rattle.transform4.specs.Inner.{Each, Sized, column_sums, column_results};
 
 use crate::lanes::{difference, half, sum};
-use transform::{block_fits, shortened, transposed, widened};
+use transform::{LARGEST, block_fits, shortened, transposed, widened};
 
 // Every column passed, as a row. MOST is the largest result allowed. As a constant it gives each pass an instance of
 // its own, which is inlined.
-pub fn pass_columns<const MOST: i32>(m: [[i16; 4]; 4]) -> Option<[[i16; 4]; 4]>
+pub fn passed_columns<const MOST: i32>(m: [[i16; 4]; 4]) -> Option<[[i16; 4]; 4]>
     requires { MOST ≤ℤ largest }
     ensures { result ≡ passed four MOST m }
 {
     let e = sums(widened(m));
     let g = results(e);
-    if block_fits(&e, 32767) & block_fits(&g, MOST) {
+    if block_fits(&e, LARGEST) & block_fits(&g, MOST) {
         Some(transposed(shortened(g)))
     } else {
         None

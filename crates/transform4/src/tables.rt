@@ -25,14 +25,14 @@ const FACTORS: [[u32; 3]; 6] = [
 ];
 
 // One line over each table, in both transforms: a common one would have to be handed the table and its definition.
-pub fn multipliers(qp: Qp) -> [u32; 3]
+pub fn multiplier_row(qp: Qp) -> [u32; 3]
     ensures value { result ≡ slice_index_or multipliers4 (qp % 6) [] }
     ensures small { Below3 13107 result }
 {
     MULTIPLIERS[qp.row()]
 }
 
-pub fn factors(qp: Qp) -> [u32; 3]
+pub fn factor_row(qp: Qp) -> [u32; 3]
     ensures value { result ≡ slice_index_or factors4 (qp % 6) [] }
     ensures small { Below3 29 result }
 {
@@ -44,7 +44,7 @@ pub fn steps(qp: Qp) -> [u32; 3]
     ensures value { result ≡ from (λ class. v4 (qp % 6) class * 2 ^ (qp / 6)) 0 3 }
     ensures small { Below3 7424 result }
 {
-    let [even, odd, mixed] = factors(qp);
+    let [even, odd, mixed] = factor_row(qp);
     let doublings = qp.doublings();
     [even << doublings, odd << doublings, mixed << doublings]
 }

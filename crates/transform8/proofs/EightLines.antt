@@ -3,7 +3,7 @@ use Rattle.std.proofs.Common.{◌≡◌, ℕ, zero, suc, ◌<◌, ◌≤◌, Boo
 use Rattle.laws.specs.Blocks.{at}
 use Rattle.laws.specs.Widths.{largest, within, every, fits}
 use Rattle.laws.proofs.Meant.{Meant, Small, kept, known, cons}
-use Rattle.laws.proofs.Steps.{split, within_fits}
+use Rattle.laws.proofs.Steps.{every_is, within_fits}
 use Rattle.transform8.specs.Inner.{Each, Sized, Short}
 
 -- eight proofs as a function of the place, and back
@@ -31,12 +31,5 @@ line d n p s =
     let one : (i : ℕ) → i < 8 → Meant (kept (at d i)) (at d i) n = λ i h. known (at d i) n (each_at (λ i. nat_abs (at d i) ≤ n) p i h) s in
     each (λ i. Meant (kept (at d i)) (at d i) n) one
 
--- a test of eight places, at one of them
-pub every_at : (t : ℕ → Bool) → every t 0 8 ≡ true → (i : ℕ) → i < 8 → t i ≡ true
-every_at t e =
-    let p0 = split _ _ e in let p1 = split _ _ p0.1 in let p2 = split _ _ p1.1 in let p3 = split _ _ p2.1 in
-    let p4 = split _ _ p3.1 in let p5 = split _ _ p4.1 in let p6 = split _ _ p5.1 in let p7 = split _ _ p6.1 in
-    each_at (λ i. t i ≡ true) (p0.0, p1.0, p2.0, p3.0, p4.0, p5.0, p6.0, p7.0)
-
 pub line_short : (most : ℤ) (d : List ℤ) → most ≤ℤ largest → fits 8 most d ≡ true → Short d
-line_short most d l f = each (λ i. SFits w16 (at d i)) (λ i h. within_fits most (at d i) l (every_at (λ i. within most (at d i)) f i h))
+line_short most d l f = each (λ i. SFits w16 (at d i)) (λ i h. within_fits most (at d i) l (every_is (λ i. within most (at d i)) 8 f i h))

@@ -7,12 +7,12 @@ ghost use Rattle.laws.proofs.Eight.{products8, small8, near8};
 ghost use Rattle.transform.specs.Passes.{products, passed};
 ghost use Rattle.transform.specs.Inner.{Sized};
 
-use crate::forward::multiply_columns;
-use crate::inverse::pass_columns;
-use crate::tables::{half_of, multipliers, pattern, steps, weighed_factors};
+use crate::forward::column_products;
+use crate::inverse::passed_columns;
+use crate::tables::{half_of, multiplier_row, pattern, steps, weighed_factors};
 use kinds::{Qp, Sort};
 use laws::error_sixths;
-use transform::{Rescaling, Transform};
+use transform::{LARGEST, LARGEST_COLUMN, Rescaling, Transform};
 
 #[derive(Clone, Copy)]
 pub struct Eight;
@@ -29,7 +29,7 @@ impl Transform<8> for Eight {
     const SHIFT: u32 = 22;
 
     fn multipliers(qp: Qp) -> [[u32; 4]; 4] {
-        pattern(multipliers(qp))
+        pattern(multiplier_row(qp))
     }
 
     // A level times 16 v is shifted by QP / 6 - 6 places. To the right it is rounded to the nearest first; a shift to
@@ -47,19 +47,19 @@ impl Transform<8> for Eight {
         requires { Sized 8 2097152 x }
         ensures { result ≡ products eight x }
     {
-        multiply_columns(x)
+        column_products(x)
     }
 
     fn pass_rows(m: [[i16; 8]; 8]) -> Option<[[i16; 8]; 8]>
         ensures { result ≡ passed eight largest m }
     {
-        pass_columns::<32767>(m)
+        passed_columns::<LARGEST>(m)
     }
 
     fn pass_columns(m: [[i16; 8]; 8]) -> Option<[[i16; 8]; 8]>
         ensures { result ≡ passed eight largest_column m }
     {
-        pass_columns::<32735>(m)
+        passed_columns::<LARGEST_COLUMN>(m)
     }
 
     fn distance(qp: Qp, sort: Sort) -> u32 {
@@ -67,7 +67,7 @@ impl Transform<8> for Eight {
         (sixths * weighed_factors(qp) + 172032) / 98304
     }
 
-    ghost edge = { lit≤ tt };
+    ghost small = { lit≤ tt };
 
     ghost points = { refl };
 

@@ -11,7 +11,7 @@ use std::array;
 use transform::column;
 
 // C times each column, as a row.
-pub fn multiply_columns(x: [[i32; 8]; 8]) -> [[i32; 8]; 8]
+pub fn column_products(x: [[i32; 8]; 8]) -> [[i32; 8]; 8]
     requires { SizedBlock 8 2097152 x }
     ensures { result ≡ products eight x }
 {

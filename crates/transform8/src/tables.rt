@@ -26,14 +26,14 @@ const FACTORS: [[u32; 6]; 6] = [
 ];
 
 // One line over each table, in both transforms: a common one would have to be handed the table and its definition.
-pub fn multipliers(qp: Qp) -> [u32; 6]
+pub fn multiplier_row(qp: Qp) -> [u32; 6]
     ensures value { result ≡ slice_index_or multipliers8 (qp % 6) [] }
     ensures small { Below6 20972 result }
 {
     MULTIPLIERS[qp.row()]
 }
 
-pub fn factors(qp: Qp) -> [u32; 6]
+pub fn factor_row(qp: Qp) -> [u32; 6]
     ensures value { result ≡ slice_index_or factors8 (qp % 6) [] }
     ensures small { Below6 58 result }
 {
@@ -45,7 +45,7 @@ pub fn steps(qp: Qp) -> [u32; 6]
     ensures value { result ≡ from (λ class. step_of (v8 (qp % 6) class) (qp / 6)) 0 6 }
     ensures small { Below6 3712 result }
 {
-    let [aa, bb, cc, ab, ac, bc] = factors(qp);
+    let [aa, bb, cc, ab, ac, bc] = factor_row(qp);
     let k = qp.doublings();
     [
         step(aa, k),
@@ -71,7 +71,7 @@ pub fn weighed_factors(qp: Qp) -> u32
     ensures value { result ≡ 256 * v8 (qp % 6) 0 + 961 * v8 (qp % 6) 1 + 144 * v8 (qp % 6) 2 + 992 * v8 (qp % 6) 3 + 384 * v8 (qp % 6) 4 + 744 * v8 (qp % 6) 5 }
     ensures small { result ≤ 201898 }
 {
-    let [aa, bb, cc, ab, ac, bc] = factors(qp);
+    let [aa, bb, cc, ab, ac, bc] = factor_row(qp);
     256 * aa + 961 * bb + 144 * cc + 992 * ab + 384 * ac + 744 * bc
 }
 

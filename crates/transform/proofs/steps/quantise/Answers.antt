@@ -18,7 +18,7 @@ from_fn-requires g c = (
             search rules,
             (
               h,
-              g.met.T.Transform.edge,
+              g.met.T.Transform.small,
               λ j l.
                   room _ g.T.Transform.most _ c.SHIFT.result c.doublings.result g.T.Transform.SHIFT (c.requires i j h l) (c.multipliers.ensures.room i j) c.SHIFT.ensures,
             ),

@@ -1,7 +1,7 @@
 use Rattle.std.proofs.Common.{pos, ap, ◌∙◌}
 use Rattle.laws.specs.Blocks.{transposed}
 use Rattle.transform4.proofs.FourLanes.{lines_sized}
-use Rattle.transform4.proofs.forward.multiply_columns.Goals as goal
+use Rattle.transform4.proofs.forward.column_products.Goals as goal
 
 pub forward_columns-requires : goal.forward_columns-requires
 forward_columns-requires c = lines_sized 2097152 c.args.x c.requires

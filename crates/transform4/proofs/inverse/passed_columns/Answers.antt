@@ -4,7 +4,7 @@ use Rattle.laws.proofs.Steps.{split, fit_short}
 use Rattle.transform4.specs.Inner.{column_sums}
 use Rattle.transform4.proofs.FourLanes.{lines_sized}
 use Rattle.transform4.proofs.FourPass.{passed_is}
-use Rattle.transform4.proofs.inverse.pass_columns.Goals as goal
+use Rattle.transform4.proofs.inverse.passed_columns.Goals as goal
 
 pub sums-e-requires : goal.sums-e-requires
 sums-e-requires g c = lines_sized 32768 c.widened.result c.widened.ensures.size

@@ -4,7 +4,7 @@ use Rattle.laws.specs.Eight.{pass8}
 use Rattle.transform8.specs.Inner.{Short}
 use Rattle.transform8.proofs.EightLines.{each_at}
 use Rattle.transform8.proofs.EightPass.{done_none, done_more, done_refused, all_short, all_passed}
-use Rattle.transform8.proofs.inverse.pass_columns.Goals as goal
+use Rattle.transform8.proofs.inverse.passed_columns.Goals as goal
 
 pub loop-j-init : goal.loop-j-init
 loop-j-init g c = done_none 8 _ _ refl
