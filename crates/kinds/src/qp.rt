@@ -42,7 +42,7 @@ impl Qp {
         ensures value { result ≡ self % 6 }
         ensures small { result < 6 }
     {
-        (self.number % 6) as usize
+        usize::from(self.number % 6)
     }
 
     // How often a step is doubled.
@@ -50,6 +50,6 @@ impl Qp {
         ensures value { result ≡ self / 6 }
         ensures small { result ≤ 8 }
     {
-        (self.number / 6) as u32
+        u32::from(self.number / 6)
     }
 }

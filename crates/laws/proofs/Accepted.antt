@@ -1,5 +1,5 @@
 -- What the steps back accept is the value that they have without tests.
-use Rattle.std.proofs.Common.{◌≡◌, ℕ, zero, suc, ◌/◌, ◌%◌, ◌<◌, Bool, true, false, cond, List, ◌∷◌, ℤ, pos, ◌+ℤ◌, ◌*ℤ◌, Some, None, Option, sym, refl, ap, ◌∙◌, subst, ap₂, arith}
+use Rattle.std.proofs.Common.{◌≡◌, ℕ, zero, suc, ◌/◌, ◌%◌, ◌<◌, Bool, true, false, cond, List, ◌∷◌, ℤ, pos, ◌+ℤ◌, ◌*ℤ◌, Some, None, Option, sym, refl, ap, ◌∙◌, subst, ap₂}
 use lib.Signed.{shr_z}
 use Rattle.laws.specs.Blocks.{Grid, at, row, cells, from, block, column, transposed}
 use Rattle.laws.specs.Widths.{largest, largest_column, fits, held, then, all}

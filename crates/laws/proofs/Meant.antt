@@ -40,9 +40,9 @@ sized {z = z} {m = m} n p s = subst (λ y. nat_abs y ≤ n) (sym p.is) (below m 
 pub known : (z : ℤ) (n : ℕ) → nat_abs z ≤ n → Small n → Meant (kept z) z n
 known z n h s = keep (record { is = refl; size = h }) s
 
--- a cast from 16 bits
-pub widened : (z : ℤ) → SFits w16 z → Meant (kept (to_z w16 (of_z w16 z))) z 32768
-widened z f = keep (record { is = to_z-of_z w16 z f; size = omega (arith, ints) }) tt
+-- a number of 16 bits
+pub widened : {x z : ℤ} → x ≡ z → SFits w16 z → Meant (kept x) z 32768
+widened e f = keep (record { is = e; size = omega (arith, ints) }) tt
 
 -- a cast from an unsigned number
 pub natural : (k n : ℕ) → k ≤ n → Small n → Meant (to_z w32 k) (pos k) n

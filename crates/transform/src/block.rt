@@ -44,7 +44,7 @@ fn widen(x: i16) -> i32
     ensures value { result ≡ x }
     ensures size { unsigned_abs result ≤ 32768 }
 {
-    x as i32
+    i32::from(x)
 }
 
 // (h + 32) >> 6, of each number
@@ -70,7 +70,7 @@ fn round_line<const N: usize>(line: [i16; N]) -> [i16; N]
 fn round(h: i16) -> i16
     ensures { result ≡ shr_z (h +ℤ pos 32) 64 }
 {
-    ((h as i32 + 32) >> 6) as i16
+    ((i32::from(h) + 32) >> 6) as i16
 }
 
 // A block in 16 bits, or a refusal where a number leaves them.

@@ -49,6 +49,7 @@ impl Quantiser {
         requires room { coefficient * multiplier < 2 ^ (self.now.shift + 14) }
         ensures { result ≡ pos ((coefficient * multiplier + self.now.add) / 2 ^ self.now.shift) }
     {
-        ((coefficient as u64 * multiplier as u64 + self.add as u64) >> self.shift) as i16
+        ((u64::from(coefficient) * u64::from(multiplier) + u64::from(self.add))
+            >> self.shift) as i16
     }
 }

@@ -35,6 +35,6 @@ impl Rescaling {
         requires { step ≤ 7424 }
         ensures { result ≡ shr_z (level *ℤ pos step +ℤ pos self.now.half) (2 ^ self.now.shift) }
     {
-        (level as i32 * step as i32 + self.half as i32) >> self.shift
+        (i32::from(level) * step as i32 + self.half as i32) >> self.shift
     }
 }
