@@ -17,6 +17,10 @@ pub enum Undone {
 }
 
 impl fmt::Display for Undone {
+    ghost use Rattle.script.specs.Texts.{text_of};
+
+    ghost output = { text_of };
+
     fn fmt<W: fmt::Write>(&self, f: &mut fmt::Formatter<W>) -> fmt::Result {
         match self {
             Undone::Refused(why) => write!(f, "refused {}: {why}", why.number()),
