@@ -1,5 +1,6 @@
 // The camera end: it codes tiles into units and gives out restarts.
 // Its plane is handed to each call, and holds what the handset's will hold once it has followed.
+// A type of its own, so that no handset's call is made on it: `open` and `count` are therefore written twice.
 ghost use Rattle.std.specs.Prelude.{◌≡◌};
 ghost use Rattle.ends.specs.Calls.{as_camera, open_call, code_call, restart_call};
 ghost use Rattle.ends.specs.Runs.{RunLaw};

@@ -1,5 +1,6 @@
 // One tile through a kind: prediction, residual, levels, reconstruction, plane.
-// Nothing is stored before the kind has answered.
+// Nothing is stored before the kind has answered. Memory is fixed, at the size of the largest tile: firmware has no heap.
+// That lists have the kind's number of elements stands in each contract: a slice's type does not say its length.
 ghost use Rattle.std.specs.Prelude.{◌≡◌, length, is_some, is_ok, if◌then◌else◌};
 ghost use Rattle.kinds.specs.Meaning.{area};
 ghost use Rattle.ends.specs.Planes.{bytes};
@@ -37,7 +38,7 @@ pub fn code_tile<K: Kind>(
     let mut window = Window { plane, tile };
     let mut samples = window.predict(mode, &mut sample_memory);
     samples::subtract(source, samples.as_slice(), residual);
-    // A rule of the project: the answer is taken apart here, and a refusal leaves before anything is stored.
+    // By `let .. else`, so that a refusal is seen to leave before anything is stored.
     let Ok(()) = kind.levels(qp, mode.sort(), residual, levels, reconstruction) else {
         return Err(WidthFault);
     };
@@ -63,7 +64,7 @@ pub fn follow_tile<K: Kind>(
     let mut sample_memory = [0; LARGEST];
     let mut reconstruction_memory = [0; LARGEST];
     let reconstruction = &mut reconstruction_memory[..area];
-    // A rule of the project: the answer is taken apart here, and a refusal leaves before anything is stored.
+    // By `let .. else`, so that a refusal is seen to leave before anything is stored.
     let Ok(()) = kind.reconstruct(qp, levels, reconstruction) else {
         return Err(WidthFault);
     };

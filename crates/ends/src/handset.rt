@@ -1,5 +1,5 @@
 // The handset end: it follows the camera's units and resumes at its restarts.
-// Its plane is handed to each call.
+// Its plane is handed to each call. A type of its own, so that no camera's call is made on it.
 ghost use Rattle.std.specs.Prelude.{◌≡◌};
 ghost use Rattle.ends.specs.Calls.{as_handset, open_call, follow_call, resume_call};
 ghost use Rattle.ends.specs.Runs.{RunLaw};

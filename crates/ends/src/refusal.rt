@@ -37,6 +37,7 @@ pub enum Refusal {
 }
 
 impl Refusal {
+    // For firmware, which knows a refusal by its number.
     pub fn number(self) -> u8
         ensures { result ≡ number_of self }
     {

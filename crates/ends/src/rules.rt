@@ -88,6 +88,7 @@ impl End {
         if heading.number == u32::MAX {
             return Err(Refusal::Count);
         }
+        // A number, as the radio hands it over: any tag but 0 is some kind's.
         if heading.tag != 0 {
             return Err(Refusal::Tag);
         }
@@ -98,7 +99,8 @@ impl End {
     }
 }
 
-// The rules that code and follow share; `miscounted` says that source or levels do not number edge x edge.
+// The rules that code and follow share; `miscounted` says that source or levels do not number edge x edge. It is handed
+// over, since code has two lists to count and follow one, and the rule stands between those for place and border.
 fn check_tile<K: Kind>(
     kind: &K,
     size: Size,

@@ -4,7 +4,7 @@ ghost use Rattle.std.specs.List.{range_with_len};
 ghost use Rattle.kinds.specs.Meaning.{Differences};
 ghost use Rattle.ends.specs.Tiles.{residual as residual_of, clip as clip_of, reconstructed};
 
-// The number of samples of the largest tile.
+// The number of samples of the largest tile, and so the length of memory that is lent.
 pub const LARGEST: usize = 256;
 
 #[derive(Drop)]

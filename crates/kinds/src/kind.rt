@@ -25,7 +25,7 @@ pub trait Kind {
     fn edge(&self) -> usize
         ensures { result ≡ (meaning self.now).edge };
 
-    // The number that names the kind in a heading.
+    // The number that names the kind in a heading. Not an enum: whoever writes a kind gives it a number of its own.
     fn tag(&self) -> u8
         ensures { result ≡ (meaning self.now).tag };
 

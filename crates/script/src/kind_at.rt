@@ -11,7 +11,7 @@ use crate::undone::Undone;
 use kinds::{Kind, Qp, Sort};
 use std::alloc::Global;
 
-// A kind, asked at a QP that is as yet unchecked.
+// A kind, asked at a number that is as yet no QP: it becomes one at the call, since other faults of a line come first.
 #[derive(Clone, Copy)]
 pub struct KindAt {
     pub kind: KindName,
@@ -39,8 +39,7 @@ impl KindAt {
         let qp = Qp::try_from(self.qp)?;
         self.check_count(levels)?;
         let mut residual = vec![in heap; 0i16; levels.len()]?;
-        self.kind
-            .reconstruct(qp, levels, residual.as_mut_slice())?;
+        self.kind.reconstruct(qp, levels, residual.as_mut_slice())?;
         Ok(Answer::Residual(residual))
     }
 

@@ -114,7 +114,7 @@ fn kind_at(kind: &str, qp: &str) -> Result<KindAt, Fault> {
     })
 }
 
-// No FromStr: the trait and the type both stand in other crates.
+// No FromStr: the trait and the type both stand in other crates, and a type of this one would hold nothing but the sort.
 fn sort(word: &str) -> Result<Sort, Fault> {
     match word {
         "intra" => Ok(Sort::Intra),
