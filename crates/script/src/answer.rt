@@ -54,8 +54,14 @@ impl fmt::Display for Answer {
             Answer::Plane { size, samples } => show_plane(f, *size, samples.as_slice()),
             Answer::Count(count) => write!(f, "count {count}"),
             Answer::Page { count, last } => show_page(f, *count, *last),
-            Answer::Levels(levels) => show_numbers(f, "levels", levels.as_slice()),
-            Answer::Residual(residual) => show_numbers(f, "residual", residual.as_slice()),
+            Answer::Levels(levels) => {
+                write!(f, "levels ")?;
+                show_numbers(f, levels.as_slice())
+            }
+            Answer::Residual(residual) => {
+                write!(f, "residual ")?;
+                show_numbers(f, residual.as_slice())
+            }
             Answer::Distance(distance) => write!(f, "distance {distance}"),
         }
     }
@@ -75,9 +81,9 @@ fn show_unit<W: fmt::Write>(
     let Coding { x, y, qp, mode } = coding;
     write!(
         f,
-        "unit {index}: number {number} place {x} {y} tag {tag} qp {qp} mode {mode} "
+        "unit {index}: number {number} place {x} {y} tag {tag} qp {qp} mode {mode} levels "
     )?;
-    show_numbers(f, "levels", levels)
+    show_numbers(f, levels)
 }
 
 fn show_plane<W: fmt::Write>(f: &mut fmt::Formatter<W>, size: Size, samples: &[u8]) -> fmt::Result {
@@ -87,29 +93,21 @@ fn show_plane<W: fmt::Write>(f: &mut fmt::Formatter<W>, size: Size, samples: &[u
         if i > 0 {
             write!(f, "\n")?;
         }
-        show_row(f, row)?;
+        show_numbers(f, row)?;
     }
     Ok(())
 }
 
-fn show_row<W: fmt::Write>(f: &mut fmt::Formatter<W>, row: &[u8]) -> fmt::Result {
-    for (i, sample) in row.iter().enumerate() {
+// Numbers with blanks between them: a tile and a row of a plane have at least one.
+fn show_numbers<T: fmt::Display, W: fmt::Write>(
+    f: &mut fmt::Formatter<W>,
+    numbers: &[T],
+) -> fmt::Result {
+    for (i, number) in numbers.iter().enumerate() {
         if i > 0 {
             write!(f, " ")?;
         }
-        write!(f, "{sample}")?;
-    }
-    Ok(())
-}
-
-fn show_numbers<W: fmt::Write>(
-    f: &mut fmt::Formatter<W>,
-    name: &str,
-    numbers: &[i16],
-) -> fmt::Result {
-    write!(f, "{name}")?;
-    for number in numbers {
-        write!(f, " {number}")?;
+        write!(f, "{number}")?;
     }
     Ok(())
 }

@@ -73,6 +73,7 @@ impl CameraSide {
     }
 
     // The heading of the restart that was given out as `index`.
+    // Beside `unit`: each takes out its own variant and names its own fault.
     pub fn heading(&self, index: usize) -> Result<Heading, Fault>
         ensures { IfOk result (λ heading. slice_get self.now.given index ≡ Some (Given.Restart heading)) }
     {
