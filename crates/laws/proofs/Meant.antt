@@ -1,9 +1,9 @@
 -- What the machine computes in 32 bits is the number that is meant, as long as the sizes stay small.
-use Rattle.std.proofs.Common.{◌≡◌, ℕ, zero, suc, ◌+◌, ◌*◌, ◌≤◌, T, leb, List, ◌∷◌, ℤ, pos, negsuc, ◌+ℤ◌, ◌-ℤ◌, ◌*ℤ◌, neg_ℤ, nat_abs, sym, refl, ap, ◌∙◌, subst, ap₂, div-le_self, arith, w16, w32, SFits, to_z, of_z}
+use Rattle.std.proofs.Common.{◌≡◌, ℕ, ◌+◌, ◌*◌, ◌≤◌, T, leb, List, ◌∷◌, ℤ, pos, negsuc, ◌+ℤ◌, ◌-ℤ◌, ◌*ℤ◌, nat_abs, sym, refl, ap, ◌∙◌, subst, ap₂, div-le_self, arith, w16, w32, SFits, to_z, of_z}
 use lib.Signed.{shr_z}
 use borrow.Author.Differences.{ints}
 use Rattle.std.proofs.lemmas.Nat.{mul-le}
-use Rattle.std.proofs.lemmas.Int.{to_z-of_z, to_z_pos}
+use Rattle.std.proofs.lemmas.Int.{to_z-of_z, to_z_pos, unsigned_abs-mul}
 
 -- x, as computed, is z, and z is at most n in size
 pub record Meant (x z : ℤ) (n : ℕ) : Type 0 where
@@ -58,18 +58,8 @@ pub shift_size : (z : ℤ) (m : ℕ) → nat_abs (shr_z z m) ≤ nat_abs z
 shift_size (pos n) m = div-le_self n m
 shift_size (negsuc n) m = omega (arith, div-le_self n m)
 
-negated_size : (n : ℕ) → nat_abs (neg_ℤ (pos n)) ≡ n
-negated_size zero = refl
-negated_size (suc n) = refl
-
-product_size_is : (a b : ℤ) → nat_abs (a *ℤ b) ≡ nat_abs a * nat_abs b
-product_size_is (pos a) (pos b) = refl
-product_size_is (pos a) (negsuc b) = negated_size (a * suc b)
-product_size_is (negsuc a) (pos b) = negated_size (suc a * b)
-product_size_is (negsuc a) (negsuc b) = refl
-
 pub product_size : (a b : ℤ) (m n : ℕ) → nat_abs a ≤ m → nat_abs b ≤ n → nat_abs (a *ℤ b) ≤ m * n
-product_size a b m n h k = subst (λ (p : ℕ). p ≤ m * n) (sym (product_size_is a b)) (mul-le (nat_abs a) (nat_abs b) m n h k)
+product_size a b m n h k = subst (λ (p : ℕ). p ≤ m * n) (sym (unsigned_abs-mul a b)) (mul-le (nat_abs a) (nat_abs b) m n h k)
 
 pub sum : {x y a b : ℤ} {m n : ℕ} → Meant x a m → Meant y b n → Meant (x +ℤ y) (a +ℤ b) (m + n)
 sum {a = a} {b = b} {m = m} {n = n} p q = record { is = ap₂ ◌+ℤ◌ p.is q.is; size = sum_size a b m n p.size q.size }

@@ -1,7 +1,7 @@
 -- Lines of eight numbers: what is computed of them, their tests, and proofs about each of the eight.
-use Rattle.std.proofs.Common.{◌≡◌, ℕ, zero, suc, ◌<◌, ◌≤◌, Bool, true, List, [], ◌∷◌, ℤ, nat_abs, ◌≤ℤ◌, refl, arith, lit<, w16, SFits}
+use Rattle.std.proofs.Common.{◌≡◌, ℕ, zero, suc, ◌<◌, ◌≤◌, true, List, [], ◌∷◌, ℤ, nat_abs, ◌≤ℤ◌, refl, arith, lit<, w16, SFits}
 use Rattle.laws.specs.Blocks.{at}
-use Rattle.laws.specs.Widths.{largest, within, every, fits}
+use Rattle.laws.specs.Widths.{largest, within, fits}
 use Rattle.laws.proofs.Meant.{Meant, Small, kept, known, cons}
 use Rattle.laws.proofs.Steps.{every_is, within_fits}
 use Rattle.transform8.specs.Inner.{Each, Sized, Short}

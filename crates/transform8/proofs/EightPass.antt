@@ -1,5 +1,6 @@
 -- A loop over the columns of a block that tests at its end.
 use Rattle.std.proofs.Common.{◌≡◌, ℕ, ◌+◌, ◌<◌, ◌≤◌, Bool, true, false, cond, ◌&&◌, ◌≢◌, List, [], length, set, ℤ, ◌≤ℤ◌, Some, None, Option, sym, refl, ap, ◌∙◌, subst, arith, length-set, get_or-set_other, get_or-set_same, below_more}
+use Rattle.std.proofs.lemmas.Bool.{true≢false, false≢true}
 use Rattle.laws.specs.Blocks.{at, row, cells, from, block}
 use Rattle.laws.specs.Widths.{largest, fits, held, then, all}
 use Rattle.laws.specs.Eight.{sums8, turns8, results8, pass8}
@@ -13,11 +14,8 @@ pub record Done (n : ℕ) (p : ℕ → Option (List ℤ)) (fits : Bool) (out : L
   pub lines : fits ≡ true → (k : ℕ) → k < i → p k ≡ Some (row out k)
   pub refused : fits ≡ false → (k : ℕ) × (k < n) × (p k ≡ None)
 
-apart : {X : Type 0} → true ≡ false → X
-apart {X} e = absurd (let z : ◌≡◌ {A = ℕ} 0 1 = cc in omega arith)
-
 pub done_none : (n : ℕ) (p : ℕ → Option (List ℤ)) (out : List (List ℤ)) → length out ≡ n → Done n p true out 0
-done_none n p out e = record { long = e; lines = λ _ k h. absurd (omega arith); refused = λ f. apart f }
+done_none n p out e = record { long = e; lines = λ _ k h. absurd (omega arith); refused = λ f. absurd (true≢false f) }
 
 pub done_more : (n : ℕ) (p : ℕ → Option (List ℤ)) (fits now : Bool) (out : List (List ℤ)) (v : List ℤ) (i : ℕ)
     → i < n → cond now (Some v) None ≡ p i → Done n p fits out i → Done n p (fits && now) (set out i v) (i + 1)
@@ -28,10 +26,10 @@ done_more n p true true out v i lt e d =
       lines = λ _. below_more (λ k. p k ≡ Some (row (set out i v) k)) i
           (λ k h. let ne : k ≢ i = omega arith in d.lines refl k h ∙ ap Some (sym (get_or-set_other out i k v [] ne)))
           (sym e ∙ ap Some (sym (get_or-set_same out i v [] short)));
-      refused = λ f. apart f;
+      refused = λ f. absurd (true≢false f);
     }
-done_more n p true false out v i lt e d = record { long = simp length-set d.long; lines = λ f. apart (sym f); refused = λ _. (i, lt, sym e) }
-done_more n p false now out v i lt e d = record { long = simp length-set d.long; lines = λ f. apart (sym f); refused = λ _. d.refused refl }
+done_more n p true false out v i lt e d = record { long = simp length-set d.long; lines = λ f. absurd (false≢true f); refused = λ _. (i, lt, sym e) }
+done_more n p false now out v i lt e d = record { long = simp length-set d.long; lines = λ f. absurd (false≢true f); refused = λ _. d.refused refl }
 
 pub done_refused : (n : ℕ) (p : ℕ → Option (List ℤ)) {fits : Bool} {out : List (List ℤ)} {i : ℕ} → Done n p fits out i → fits ≡ false → all (from p 0 n) ≡ None
 done_refused n p d f = let r = d.refused f in all_none p 0 n r.0 (omega arith) (omega arith) r.2

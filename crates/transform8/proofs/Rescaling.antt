@@ -1,8 +1,8 @@
 -- One line of code does for the two shifts of rescaling.
 use Rattle.std.proofs.Common.{◌≡◌, ℕ, zero, suc, ◌-◌, ◌*◌, ◌/◌, ◌^◌, ◌≤◌, ℤ, pos, ◌+ℤ◌, ◌*ℤ◌, sym, ap, ◌∙◌, arith}
+use Rattle.std.proofs.Math.IntN.{*ℤ-one}
 use lib.IntN.{*ℤ_comm}
 use lib.Signed.{shr_z}
-use borrow.Author.Differences.{product_is, same_in}
 use Rattle.laws.specs.Eight.{rescale8}
 use Rattle.laws.proofs.Linear.{*ℤ-assoc}
 use Rattle.transform.proofs.Blocks.{unshifted}
@@ -14,11 +14,9 @@ stepped l v p =
     sym (*ℤ-assoc l (pos (16 * v)) (pos p))
     ∙ ap (λ z. z *ℤ pos p) (*ℤ_comm l (pos (16 * v)) ∙ *ℤ-assoc (pos 16) (pos v) l ∙ ap (λ z. pos 16 *ℤ z) (*ℤ_comm (pos v) l))
 
-times_one : (z : ℤ) → z *ℤ pos 1 ≡ z
-times_one z = same_in _ _ (omega (arith, product_is z (pos 1)))
-
 right : (l : ℤ) (v half m : ℕ) → shr_z (l *ℤ pos (16 * v * 1) +ℤ pos half) m ≡ shr_z (pos 16 *ℤ (l *ℤ pos v) +ℤ pos half) m
-right l v half m = ap (λ z. shr_z (z +ℤ pos half) m) (stepped l v 1 ∙ times_one (pos 16 *ℤ (l *ℤ pos v)))
+unfolding lib.IntN.one
+right l v half m = ap (λ z. shr_z (z +ℤ pos half) m) (stepped l v 1 ∙ *ℤ-one (pos 16 *ℤ (l *ℤ pos v)))
 
 left : (l : ℤ) (v p : ℕ) → shr_z (l *ℤ pos (16 * v * p) +ℤ pos 0) 1 ≡ pos 16 *ℤ (l *ℤ pos v) *ℤ pos p
 left l v p = unshifted _ ∙ stepped l v p
