@@ -8,16 +8,15 @@ use std::io::{BufRead, BufReader, BufWriter, Write};
 fn main(rt: HostRuntime) -> anyhow::Result<()> {
     let mut session = Session::new(rt.alloc());
     let mut out = BufWriter::new(rt.alloc(), rt.stdout())?;
-    let mut number: u64 = 0;
     let mut wrong = false;
-    for line in BufReader::new(rt.alloc(), rt.stdin())?.split(rt.alloc(), b'\n') {
-        number = number.saturating_add(1);
+    let lines = BufReader::new(rt.alloc(), rt.stdin())?.split(rt.alloc(), b'\n');
+    for (i, line) in lines.enumerate() {
         match session.answer_line(line?.as_slice()) {
             Ok(Some(answer)) => writeln!(out, "{answer}")?,
             Ok(None) => {}
             Err(Undone::InError(fault)) => {
                 wrong = true;
-                writeln!(out, "error line {number}: {fault}")?;
+                writeln!(out, "error line {}: {fault}", i.saturating_add(1))?;
             }
             Err(refused) => writeln!(out, "{refused}")?,
         }
