@@ -5,8 +5,8 @@ use Rattle.laws.specs.Blocks.{at, row, cells, from, block}
 use Rattle.laws.specs.Widths.{largest, fits, held, then, all}
 use Rattle.laws.specs.Eight.{sums8, turns8, results8, pass8}
 use Rattle.laws.proofs.Steps.{none_some, all_some, all_none}
-use Rattle.transform8.specs.Inner.{Each, Short}
-use Rattle.transform8.proofs.EightLines.{each, line_short}
+use Rattle.transform8.specs.Inner.{Each}
+use Rattle.transform8.proofs.EightLines.{Short, each, line_short}
 
 -- i of n lines are done: p says what each is; while all fit they stand in `out`, else one of the n is refused
 pub record Done (n : ℕ) (p : ℕ → Option (List ℤ)) (fits : Bool) (out : List (List ℤ)) (i : ℕ) : Type 0 where

@@ -1,6 +1,5 @@
 -- What inner functions ask of their callers and tell them: sizes of lines, sums of a line, numbers by class.
-use Rattle.std.specs.Prelude.{ℕ, ◌-◌, ◌*◌, ◌^◌, ◌≤◌, List, [], ◌∷◌, ℤ, ◌+ℤ◌, ◌-ℤ◌, FitsSigned, slice_index, unsigned_abs}
-use Rattle.std.specs.Int.{w16}
+use Rattle.std.specs.Prelude.{ℕ, ◌-◌, ◌*◌, ◌^◌, ◌≤◌, List, [], ◌∷◌, ℤ, ◌+ℤ◌, ◌-ℤ◌, slice_index, unsigned_abs}
 use Rattle.laws.specs.Blocks.{at, from, dot}
 use Rattle.laws.specs.Eight.{forward8}
 
@@ -10,10 +9,6 @@ Each P = P 0 × P 1 × P 2 × P 3 × P 4 × P 5 × P 6 × P 7
 -- eight numbers, each at most n in size
 abbrev pub Sized : ℕ → List ℤ → Type 0
 Sized n d = Each (λ i. unsigned_abs (at d i) ≤ n)
-
--- eight numbers of 16 bits
-abbrev pub Short : List ℤ → Type 0
-Short d = Each (λ i. FitsSigned w16 (at d i))
 
 -- four numbers, each at most n in size
 abbrev pub Sized4 : ℕ → List ℤ → Type 0

@@ -1,8 +1,7 @@
 use Rattle.std.proofs.Common.{Some, pos, sym, refl, ap, ◌∙◌, w16, SFits, rules}
 use Rattle.laws.specs.Blocks.{at, row, column}
 use Rattle.laws.specs.Eight.{pass8}
-use Rattle.transform8.specs.Inner.{Short}
-use Rattle.transform8.proofs.EightLines.{each_at}
+use Rattle.transform8.proofs.EightLines.{Short, each_at}
 use Rattle.transform8.proofs.EightPass.{done_none, done_more, done_refused, all_short, all_passed}
 use Rattle.transform8.proofs.inverse.passed_columns.Goals as goal
 
