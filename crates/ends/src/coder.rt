@@ -38,7 +38,7 @@ pub fn code_tile<K: Kind>(
     let mut window = Window { plane, tile };
     let mut samples = window.predict(mode, &mut sample_memory);
     samples::subtract(source, samples.as_slice(), residual);
-    // By `let .. else`, so that a refusal is seen to leave before anything is stored.
+    // `let .. else` and not `?`: a rule of the project, so that a refusal is seen to leave before anything is stored.
     let Ok(()) = kind.levels(qp, mode.sort(), residual, levels, reconstruction) else {
         return Err(WidthFault);
     };
@@ -64,7 +64,7 @@ pub fn follow_tile<K: Kind>(
     let mut sample_memory = [0; LARGEST];
     let mut reconstruction_memory = [0; LARGEST];
     let reconstruction = &mut reconstruction_memory[..area];
-    // By `let .. else`, so that a refusal is seen to leave before anything is stored.
+    // `let .. else` and not `?`: a rule of the project, so that a refusal is seen to leave before anything is stored.
     let Ok(()) = kind.reconstruct(qp, levels, reconstruction) else {
         return Err(WidthFault);
     };

@@ -37,6 +37,7 @@ impl TryFrom<u8> for Mode {
 }
 
 impl Mode {
+    // No From: `mode.sort()` names what it gives.
     pub fn sort(self) -> Sort
         ensures { result ≡ sort_of self }
     {

@@ -53,6 +53,7 @@ impl Window<'_> {
     {
         let tile = self.tile;
         let plane = &mut *self.plane;
+        // The plane by number: its rows are longer than the tile's, and begin elsewhere.
         for (i, row) in samples.chunks_exact(tile.edge).enumerate() {
             let first = (tile.y + i) * usize::from(tile.size.width) + tile.x;
             plane[first..first + tile.edge].copy_from_slice(row);

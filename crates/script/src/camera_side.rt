@@ -1,5 +1,6 @@
 // The camera with its plane, and all that it has given out.
 // Each call finds its memory made before it: once the camera has answered, nothing can fail.
+// That an error leaves all as it was stands in each contract: no type could say what a call leaves.
 ghost use Rattle.std.specs.Prelude.{◌≡◌, [], length, slice_get, Some, IfOk, OnErr};
 ghost use Rattle.script.specs.Answers.{OnTried};
 ghost use Rattle.script.specs.Sides.{restart_of, restart_answer, restart_after};

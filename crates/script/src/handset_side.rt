@@ -1,4 +1,6 @@
-// The handset with its plane, and the tile that it took last.
+// The handset with its plane, and the tile that it took last. `count` and `samples` are a camera's side's too: a line each,
+// on a type of its own, as the two ends are.
+// That an error leaves all as it was stands in each contract: no type could say what a call leaves.
 ghost use Rattle.std.specs.Prelude.{◌≡◌, Some, None, OnErr};
 ghost use Rattle.script.specs.Answers.{OnTried};
 ghost use Rattle.script.specs.Sides.{taken, follow_of, resume_of, handset_after};

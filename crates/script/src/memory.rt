@@ -1,4 +1,5 @@
 // The memory that the calls are handed.
+// That an error leaves all as it was stands in each contract: no type could say what a call leaves.
 ghost use Rattle.std.specs.Prelude.{◌≡◌, List, ℕ, IfOk, OnErr};
 ghost use Rattle.script.specs.Memory.{memory_of, written, LentTo};
 

@@ -1,4 +1,5 @@
 // Both ends, opened alike, each with its plane.
+// That an error leaves all as it was stands in each contract: no type could say what a call leaves.
 ghost use Rattle.std.specs.Prelude.{◌≡◌, IfOk, OnErr};
 ghost use Rattle.script.specs.Answers.{count_of, page_of, samples_of, shown_plane};
 

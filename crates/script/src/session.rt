@@ -1,4 +1,5 @@
 // A run of a script: the settings, and the ends once they are open.
+// That an error leaves all as it was stands in each contract: no type could say what a call leaves.
 ghost use Rattle.std.specs.Prelude.{◌≡◌, true, OnErr};
 ghost use Rattle.script.specs.Answers.{idle_line};
 ghost use Rattle.script.specs.State.{at_first, with_memory, with_room};

@@ -106,6 +106,7 @@ pub fn line_fits<const N: usize>(line: &[i32; N], most: i32) -> bool
     fits
 }
 
+// Beside Exact's test of a level: that one is of 16 bits, and its range has two ends of its own.
 fn within(x: i32, most: i32) -> bool
     ensures { result ≡ is_within most x }
 {
@@ -200,7 +201,7 @@ pub fn write<const N: usize>(m: &[[i16; N]; N], tile: &mut [i16])
     requires length { length tile.old ≡ N * N }
     ensures { tile.new ≡ row_by_row N (cells m.now) }
 {
-    // By number: after a loop over chunks_exact_mut the check knows no element.
+    // The tile by number: after a loop over chunks_exact_mut the check knows no element.
     for (i, line) in m.iter().enumerate() {
         write_line(line, tile, i);
     }
