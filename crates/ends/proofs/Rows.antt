@@ -141,12 +141,6 @@ Part t tile old plane i = (col row : ℕ) → col < t.size.width → row < t.siz
     ≡ cond ((leb t.x col && ltb col (t.x + t.edge)) && (leb t.y row && ltb row (t.y + i))) (get_or tile (offset t col row) 0) (sample t.size old col row)
 
 module _ (t : Tile) (tile old : List ℕ) where
-  abbrev across : ℕ → Bool
-  across col = leb t.x col && ltb col (t.x + t.edge)
-
-  pub part_none : Part t tile old old 0
-  part_none col row hc hr = grind (arith, nat_tests)
-
   pub part_more : (plane new row-i : List ℕ) (i : ℕ) → length row-i ≡ t.edge → ((j : ℕ) → j < t.edge → get_or row-i j 0 ≡ get_or tile (i * t.edge + j) 0)
       → ((col row : ℕ) → col < t.size.width → row < t.size.height
       → sample t.size new col row ≡ cond (on_row t.x (t.y + i) (length row-i) col row) (get_or row-i (col - t.x) 0) (sample t.size plane col row))
