@@ -64,7 +64,7 @@ impl Window<'_> {
         above.iter().map(|sample| usize::from(*sample)).sum()
     }
 
-    // The sum of the samples just left of the tile.
+    // The sum of the samples just left of the tile. Beside `sum_above`, which reads a slice: a column is none.
     fn sum_left(&self) -> usize
         requires { 0 < self.now.tile.x }
         ensures value { result ≡ left self.now.tile self.now.plane.now }

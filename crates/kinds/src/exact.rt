@@ -65,6 +65,7 @@ fn all_narrow(levels: &[i16]) -> bool
     all
 }
 
+// A test of its own, beside the one of the transforms: of 16 bits, with two ends that it knows.
 fn narrow(level: i16) -> bool
     ensures { result ≡ is_narrow level }
 {
