@@ -93,25 +93,6 @@ all_cond b x i (suc n) =
     ∙ tested (b i) (every b (suc i) n) (x i) (λ a. then (cond (every b (suc i) n) (Some (from x (suc i) n)) None) (λ rest. Some (a ∷ rest)))
     (from x i (suc n)) (then_cond (every b (suc i) n) (from x (suc i) n) (λ rest. x i ∷ rest))
 
-pub all_some : {A : Type 0} (f : ℕ → Option A) (g : ℕ → A) (i n : ℕ) → ((k : ℕ) → i ≤ k → k < i + n → f k ≡ Some (g k)) → all (from f i n) ≡ Some (from g i n)
-all_some f g i zero h = refl
-all_some f g i (suc n) h =
-    ap (λ o. then o (λ a. then (all (from f (suc i) n)) (λ rest. Some (a ∷ rest)))) (h i (omega arith) (omega arith))
-    ∙ ap (λ o. then o (λ rest. Some (g i ∷ rest))) (all_some f g (suc i) n (λ k l u. h k (omega arith) (omega arith)))
-
-then_none : {A B : Type 0} (o : Option A) → then {B = B} o (λ a. None) ≡ None
-then_none None = refl
-then_none (Some a) = refl
-
--- one refused line refuses the block
-pub all_none : {A : Type 0} (f : ℕ → Option A) (i n k : ℕ) → i ≤ k → k < i + n → f k ≡ None → all (from f i n) ≡ None
-all_none f i zero k l u e = absurd (omega arith)
-all_none {A} f i (suc n) k l u e =
-    elim (eq-or-lt_of_le l) [
-      | inl q ↦ ap (λ o. then o (λ a. then (all (from f (suc i) n)) (λ rest. Some (a ∷ rest)))) (ap f q ∙ e)
-      | inr q ↦ ap (λ o. then (f i) (λ a. then o (λ rest. Some (a ∷ rest)))) (all_none f (suc i) n k (omega arith) (omega arith) e) ∙ then_none (f i)
-    ]
-
 -- a block whose lines are held one by one, by one test
 pub held_block : (n : ℕ) (m : List (List ℤ)) (b : Bool) → b ≡ every (λ i. fits n largest (row m i)) 0 n
     → cond b (Some (block n (cells m))) None ≡ all (from (λ i. held n largest (row m i)) 0 n)

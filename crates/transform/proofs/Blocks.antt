@@ -6,7 +6,7 @@ use Rattle.kinds.specs.declared.kind.Sort.{Sort}
 use Rattle.laws.specs.Blocks.{Grid, at, row, cells, from, block, column, transposed, dot}
 use Rattle.laws.specs.Widths.{largest, largest_column, held, then, all}
 use Rattle.laws.specs.Quantiser.{rounding, quantised}
-use Rattle.laws.specs.Transform.{Transform, class_at, half_product, coefficients, shift_at, levels, rescaled, rescaled_block, rows_passed, rounded, inverse}
+use Rattle.laws.specs.Transform.{Transform, class_at, half_product, coefficients, shift_at, levels, rescaled, rescaled_block, rows_passed, columns_passed, inverse}
 use Rattle.laws.proofs.Lists.{at_from, row_from, cells_block, from_same, block_same}
 use Rattle.laws.proofs.TileSteps.{coefficients_same}
 use Rattle.transform.specs.Pattern.{pattern_at, stepped}
@@ -62,33 +62,42 @@ module _ (T : Transform) where
         (ap all (from_same (λ i. held T.points largest (row (block T.points (rescaled T qp (cells l))) i)) (λ i. held T.points largest (from (rescaled T qp (cells l) i) 0 T.points)) T.points
         (λ i hi. ap (held T.points largest) (row_from (λ i. from (rescaled T qp (cells l) i) 0 T.points) T.points i hi))))
 
-    -- the last rounding, of columns that were passed as rows
-    abbrev pub finished : List (List ℤ) → List (List ℤ)
-    finished c = block n (λ i j. shr_z (cells (transposed n c) i j +ℤ pos 32) 64)
-
+    -- what is left to do once the columns have passed, and once the rows have
     abbrev pub after_columns : Option (List (List ℤ)) → Option (List (List ℤ))
-    after_columns o = then o (λ c. Some (finished c))
+    after_columns o = then o (λ c. Some (block n (λ i j. shr_z (cells c i j +ℤ pos 32) 64)))
 
     abbrev pub after_rows : Option (List (List ℤ)) → Option (List (List ℤ))
-    after_rows o = then o (λ r. after_columns (passed T largest_column r))
+    after_rows o = then o (λ r. after_columns (passed T largest_column (transposed n r)))
 
   -- the rows pass as the columns of the transposed block
-  rows_are : ((most : ℤ) (line : List ℤ) → T.pass most (from (at line) 0 T.points) ≡ T.pass most line) → (m : List (List ℤ)) → rows_passed T m ≡ passed T largest (transposed T.points m)
+  rows_are : ((most : ℤ) (line : List ℤ) → T.pass most (from (at line) 0 T.points) ≡ T.pass most line) → (m : List (List ℤ))
+      → passed T largest (transposed T.points m) ≡ then (rows_passed T m) (λ r. Some (transposed T.points r))
   rows_are reads m =
-      ap all (from_same (λ i. T.pass largest (row m i)) (λ i. T.pass largest (column T.points (transposed T.points m) i)) T.points
-      (λ i hi. sym (ap (T.pass largest) (from_same (λ j. cells (transposed T.points m) j i) (cells m i) T.points (λ j hj. cells_block T.points (λ a b. cells m b a) j i hj hi)) ∙ reads largest (row m i))))
+      ap (λ (ls : List (Option (List ℤ))). then (all ls) (λ r. Some (transposed T.points r)))
+      (from_same (λ i. T.pass largest (column T.points (transposed T.points m) i)) (λ i. T.pass largest (row m i)) T.points
+      (λ i hi. ap (T.pass largest) (from_same (λ j. cells (transposed T.points m) j i) (cells m i) T.points (λ j hj. cells_block T.points (λ a b. cells m b a) j i hj hi)) ∙ reads largest (row m i)))
 
-  then_then : {A B C : Type 0} (o : Option A) (f : A → B) (g : B → C) → then (then o (λ a. Some (f a))) (λ b. Some (g b)) ≡ then o (λ a. Some (g (f a)))
-  then_then None f g = refl
-  then_then (Some a) f g = refl
+  -- rows and columns exchanged twice
+  columns_are : (r : List (List ℤ)) → passed T largest_column (transposed T.points (transposed T.points r)) ≡ columns_passed T r
+  columns_are r =
+      let n = T.points in
+      ap (λ (ls : List (Option (List ℤ))). then (all ls) (λ c. Some (transposed n c)))
+      (from_same (λ j. T.pass largest_column (column n (transposed n (transposed n r)) j)) (λ j. T.pass largest_column (column n r j)) n
+      (λ j hj. ap (T.pass largest_column) (from_same (λ i. cells (transposed n (transposed n r)) i j) (λ i. cells r i j) n
+      (λ i hi. cells_block n (λ a b. cells (transposed n r) b a) i j hi hj ∙ cells_block n (λ a b. cells r b a) j i hj hi))))
+
+  then_then : {A B C : Type 0} (o : Option A) (f : A → B) (k : B → Option C) → then (then o (λ a. Some (f a))) k ≡ then o (λ a. k (f a))
+  then_then None f k = refl
+  then_then (Some a) f k = refl
 
   pub inverse_is : (n : ℕ) (points : T.points ≡ n) → ((most : ℤ) (line : List ℤ) → T.pass most (from (at line) 0 n) ≡ T.pass most line)
       → (m : List (List ℤ)) → after_rows n points (passed T largest (transposed n m)) ≡ inverse T m
   inverse_is n points reads m =
       subst (λ n. (points : T.points ≡ n) → ((most : ℤ) (line : List ℤ) → T.pass most (from (at line) 0 n) ≡ T.pass most line) → after_rows n points (passed T largest (transposed n m)) ≡ inverse T m) points
       (λ points reads.
-      ap (after_rows T.points points) (sym (rows_are reads m))
-      ∙ (λ t. then (rows_passed T m) (λ r. sym (then_then (all (from (λ j. T.pass largest_column (column T.points r j)) 0 T.points)) (transposed T.points) (rounded T)) t)))
+      ap (after_rows T.points points) (rows_are reads m)
+      ∙ then_then (rows_passed T m) (transposed T.points) (λ r. after_columns T.points points (passed T largest_column (transposed T.points r)))
+      ∙ (λ t. then (rows_passed T m) (λ r. after_columns T.points points (columns_are r t))))
       points reads
 
 -- a coefficient's product has room: the levels have 16 bits

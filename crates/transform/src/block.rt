@@ -85,7 +85,9 @@ pub fn held<const N: usize>(m: [[i32; N]; N]) -> Option<[[i16; N]; N]>
     }
 }
 
-// Whether each number lies in -32768..most. It looks at all of them: a test with no exit is quicker.
+// Whether each number lies in -32768..most. It looks at all of them: a test with no exit is quicker. Both tests are inlined:
+// in a pass they then stay in its vectors.
+#[inline(always)]
 pub fn block_fits<const N: usize>(m: &[[i32; N]; N], most: i32) -> bool
     ensures { result ≡ every (λ i. line_fits N most (row m.now i)) 0 N }
 {
@@ -96,6 +98,7 @@ pub fn block_fits<const N: usize>(m: &[[i32; N]; N], most: i32) -> bool
     fits
 }
 
+#[inline(always)]
 pub fn line_fits<const N: usize>(line: &[i32; N], most: i32) -> bool
     ensures { result ≡ line_fits N most line.now }
 {
@@ -195,13 +198,14 @@ fn read_line<const N: usize>(tile: &[i16], i: usize) -> [i16; N]
     )
 }
 
-// A block as a tile.
+// A block as a tile. Inlined: with its size known it is a few moves of vectors.
+#[inline(always)]
 pub fn write<const N: usize>(m: &[[i16; N]; N], tile: &mut [i16])
     requires small { N ≤ 16 }
     requires length { length tile.old ≡ N * N }
     ensures { tile.new ≡ row_by_row N (cells m.now) }
 {
-    // The tile by number: after a loop over chunks_exact_mut the check knows no element.
+    // The tile by number: after a loop over chunks_exact_mut the check knows no element, and of m as one slice no row's length.
     for (i, line) in m.iter().enumerate() {
         write_line(line, tile, i);
     }

@@ -66,8 +66,8 @@ pub fn inverse_transform<T: Transform<N>, const N: usize>(
     ensures { result ≡ inverse T.transform rescaled.entry }
 {
     let rows = T::pass_rows(transposed(rescaled))?;
-    let columns = T::pass_columns(rows)?;
-    Some(rounded(transposed(columns)))
+    let columns = T::pass_columns(transposed(rows))?;
+    Some(rounded(columns))
 }
 
 // The residual that levels stand for, or a refusal where a number leaves its width.

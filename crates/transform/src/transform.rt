@@ -39,12 +39,12 @@ pub trait Transform<const N: usize> {
         requires { Sized N 2097152 x }
         ensures { result ≡ products transform x.entry };
 
-    // Every column passed, as a row, as the rows of a block pass: a result has 16 bits.
+    // Every column passed, in its place, as the rows of a block pass: a result has 16 bits.
     // Rows and columns have a method each, since a trait's method takes no const parameter.
     fn pass_rows(m: [[i16; N]; N]) -> Option<[[i16; N]; N]>
         ensures { result ≡ passed transform largest m.entry };
 
-    // Every column passed, as a row, where a result leaves room for the last rounding.
+    // Every column passed, in its place, where a result leaves room for the last rounding.
     fn pass_columns(m: [[i16; N]; N]) -> Option<[[i16; N]; N]>
         ensures { result ≡ passed transform largest_column m.entry };
 

@@ -1,5 +1,5 @@
 -- Numbers by class, at their places.
-use Rattle.std.proofs.Common.{◌≡◌, ℕ, zero, suc, ◌%◌, ◌<◌, refl, arith}
+use Rattle.std.proofs.Common.{◌≡◌, ℕ, ◌%◌, ◌<◌, refl}
 use Rattle.laws.specs.Four.{class4}
 use Rattle.transform.specs.Pattern.{pattern_at}
 use Rattle.transform.proofs.Places.{at4}

@@ -1,4 +1,2 @@
-pub mod FourLanes
-pub mod FourPass
 pub mod FourForward
 pub mod Classes

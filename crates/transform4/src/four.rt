@@ -65,6 +65,8 @@ impl Transform<4> for Four {
         passed_columns::<LARGEST_COLUMN>(m)
     }
 
+    // In 1536ths of a sample: the quantiser's error, each class by its weight in a sample, and 1344 for what the multipliers,
+    // the passes and the last rounding round.
     fn distance(qp: Qp, sort: Sort) -> u32 {
         let [even, odd, mixed] = factor_row(qp);
         let weighed = 16 * even + 9 * odd + 24 * mixed;

@@ -1,16 +1,14 @@
-// The inverse pass over columns. It has no exit of its own: its sums cannot wrap in 32 bits, and all of them are
-// tested once at its end.
+// The inverse pass over columns, all of them side by side. It has no exit of its own: its sums cannot wrap in 32 bits, and
+// all of them are tested once at its end. Its stages are inlined: as calls, their blocks would go through memory.
 ghost use Rattle.std.specs.Prelude.{◌≡◌, ◌≤ℤ◌};
-ghost use Rattle.laws.specs.Blocks.{row};
 ghost use Rattle.laws.specs.Widths.{largest};
-ghost use Rattle.laws.specs.Four.{four};
-ghost use Rattle.transform.specs.Passes.{passed};
-ghost use Rattle.transform4.specs.Inner.{Each, Sized, column_sums, column_results};
+ghost use Rattle.laws.specs.Four.{four, sums4, results4};
+ghost use Rattle.transform.specs.Passes.{passed, on_columns};
+ghost use Rattle.transform.specs.Inner.{Sized};
 
-use crate::lanes::{difference, half, sum};
-use transform::{LARGEST, block_fits, shortened, transposed, widened};
+use transform::{LARGEST, block_fits, difference, shifted, shortened, sum, widened};
 
-// Every column passed, as a row. MOST is the largest result allowed. As a constant it gives each pass an instance of
+// Every column passed, in its place. MOST is the largest result allowed. As a constant it gives each pass an instance of
 // its own, which is inlined.
 pub fn passed_columns<const MOST: i32>(m: [[i16; 4]; 4]) -> Option<[[i16; 4]; 4]>
     requires { MOST ≤ℤ largest }
@@ -19,31 +17,33 @@ pub fn passed_columns<const MOST: i32>(m: [[i16; 4]; 4]) -> Option<[[i16; 4]; 4]
     let e = sums(widened(m));
     let g = results(e);
     if block_fits(&e, LARGEST) & block_fits(&g, MOST) {
-        Some(transposed(shortened(g)))
+        Some(shortened(g))
     } else {
         None
     }
 }
 
 // e0 .. e3 of each column
+#[inline(always)]
 fn sums(m: [[i32; 4]; 4]) -> [[i32; 4]; 4]
-    requires { Each (λ i. Sized 32768 (row m i)) }
-    ensures value { result ≡ column_sums m }
-    ensures size { Each (λ i. Sized 65536 (row result i)) }
+    requires { Sized 4 32768 m }
+    ensures value { result ≡ on_columns 4 sums4 m }
+    ensures size { Sized 4 65536 result }
 {
     let [a, b, c, d] = m;
     [
         sum(a, c),
         difference(a, c),
-        difference(half(b), d),
-        sum(b, half(d)),
+        difference(shifted(b, 1), d),
+        sum(b, shifted(d, 1)),
     ]
 }
 
 // the results of each column
+#[inline(always)]
 fn results(e: [[i32; 4]; 4]) -> [[i32; 4]; 4]
-    requires { Each (λ i. Sized 65536 (row e i)) }
-    ensures { result ≡ column_results e }
+    requires { Sized 4 65536 e }
+    ensures { result ≡ on_columns 4 results4 e }
 {
     let [e0, e1, e2, e3] = e;
     [

@@ -1,12 +1,11 @@
 // The 4 by 4 transform, as one of the transforms that the crate `transform` takes through its steps.
-// four: the transform. tables: its multipliers, factors and classes. forward and inverse: its passes, over
-// four columns side by side, which lanes holds in vectors.
+// four: the transform. tables: its multipliers, factors and classes. forward and inverse: its passes,
+// over four columns side by side.
 #![tactic(auto)]
 
 mod forward;
 mod four;
 mod inverse;
-mod lanes;
 mod tables;
 
 pub use four::Four;

@@ -1,9 +1,7 @@
--- Lines of eight numbers: what is computed of them, their tests, and proofs about each of the eight.
-use Rattle.std.proofs.Common.{◌≡◌, ℕ, zero, suc, ◌<◌, ◌≤◌, true, List, [], ◌∷◌, ℤ, nat_abs, ◌≤ℤ◌, refl, arith, lit<, w16, SFits}
+-- Lines of eight numbers: what is computed of them, and proofs about each of the eight.
+use Rattle.std.proofs.Common.{◌≡◌, ℕ, zero, suc, ◌<◌, ◌≤◌, List, [], ◌∷◌, ℤ, nat_abs, refl, arith, lit<}
 use Rattle.laws.specs.Blocks.{at}
-use Rattle.laws.specs.Widths.{largest, within, fits}
 use Rattle.laws.proofs.Meant.{Meant, Small, kept, known, cons}
-use Rattle.laws.proofs.Steps.{every_is, within_fits}
 use Rattle.transform8.specs.Inner.{Each, Sized}
 
 -- eight proofs as a function of the place, and back
@@ -30,10 +28,3 @@ pub line : (d : List ℤ) (n : ℕ) → Sized n d → Small n → Each (λ i. Me
 line d n p s =
     let one : (i : ℕ) → i < 8 → Meant (kept (at d i)) (at d i) n = λ i h. known (at d i) n (each_at (λ i. nat_abs (at d i) ≤ n) p i h) s in
     each (λ i. Meant (kept (at d i)) (at d i) n) one
-
--- eight numbers of 16 bits
-abbrev pub Short : List ℤ → Type 0
-Short d = Each (λ i. SFits w16 (at d i))
-
-pub line_short : (most : ℤ) (d : List ℤ) → most ≤ℤ largest → fits 8 most d ≡ true → Short d
-line_short most d l f = each (λ i. SFits w16 (at d i)) (λ i h. within_fits most (at d i) l (every_is (λ i. within most (at d i)) 8 f i h))

@@ -62,6 +62,8 @@ impl Transform<8> for Eight {
         passed_columns::<LARGEST_COLUMN>(m)
     }
 
+    // In 98304ths of a sample: the quantiser's error, each class by its weight in a sample, and 172032 for what the multipliers,
+    // rescaling, the passes and the last rounding round.
     fn distance(qp: Qp, sort: Sort) -> u32 {
         let sixths = error_sixths(sort) << qp.doublings();
         (sixths * weighed_factors(qp) + 172032) / 98304

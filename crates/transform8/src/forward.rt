@@ -23,14 +23,13 @@ pub fn column_products(x: [[i32; 8]; 8]) -> [[i32; 8]; 8]
     )
 }
 
-// C times a line, by the left half of C. That the numbers are small stands here and in its two parts: a type round
+// C times a line, by the left half of C. That the numbers are small stands here and in its parts: a type round
 // eight numbers would be taken off at once.
 fn forward_line(x: [i32; 8]) -> [i32; 8]
     requires { Sized 2097152 x }
     ensures { result ≡ forward_line x }
 {
-    let s = sums(x);
-    let d = differences(x);
+    let (s, d) = mirrored(x);
     [
         dot(s, [8, 8, 8, 8]),
         dot(d, [12, 10, 6, 3]),
@@ -43,24 +42,18 @@ fn forward_line(x: [i32; 8]) -> [i32; 8]
     ]
 }
 
-// the sums of opposite inputs
-fn sums(x: [i32; 8]) -> [i32; 4]
+// The sums of opposite inputs, and their differences.
+fn mirrored(x: [i32; 8]) -> ([i32; 4], [i32; 4])
     requires { Sized 2097152 x }
-    ensures value { result ≡ mirror_sums x }
-    ensures size { Sized4 4194304 result }
+    ensures sums { result.0 ≡ mirror_sums x }
+    ensures differences { result.1 ≡ mirror_differences x }
+    ensures sums_small { Sized4 4194304 result.0 }
+    ensures differences_small { Sized4 4194304 result.1 }
 {
     let [x0, x1, x2, x3, x4, x5, x6, x7] = x;
-    [x0 + x7, x1 + x6, x2 + x5, x3 + x4]
-}
-
-// their differences
-fn differences(x: [i32; 8]) -> [i32; 4]
-    requires { Sized 2097152 x }
-    ensures value { result ≡ mirror_differences x }
-    ensures size { Sized4 4194304 result }
-{
-    let [x0, x1, x2, x3, x4, x5, x6, x7] = x;
-    [x0 - x7, x1 - x6, x2 - x5, x3 - x4]
+    let sums = [x0 + x7, x1 + x6, x2 + x5, x3 + x4];
+    let differences = [x0 - x7, x1 - x6, x2 - x5, x3 - x4];
+    (sums, differences)
 }
 
 fn dot(x: [i32; 4], c: [i32; 4]) -> i32

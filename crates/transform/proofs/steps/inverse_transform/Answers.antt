@@ -1,7 +1,5 @@
-use Rattle.std.proofs.Common.{Some, ap, ◌∙◌, ◌+ℤ◌, pos}
-use lib.Signed.{shr_z}
-use Rattle.laws.specs.Blocks.{cells, block}
-use Rattle.laws.specs.Widths.{largest}
+use Rattle.std.proofs.Common.{Some, pos, ap, ◌∙◌}
+use Rattle.laws.specs.Widths.{largest, largest_column}
 use Rattle.transform.specs.Passes.{passed}
 use Rattle.transform.proofs.Blocks.{after_columns, after_rows, inverse_is}
 use Rattle.transform.proofs.steps.inverse_transform.Goals as goal
@@ -17,14 +15,14 @@ pub returns-in_err-columns : goal.returns-in_err-columns
 returns-in_err-columns g c =
     let T = g.T.Transform.transform in let laws = g.met.T.Transform in
     c.from_residual-in_err-columns.ensures
-    ∙ ap (after_columns T g.row.N laws.points) c.in_err-columns.ensures
+    ∙ ap (after_columns T g.row.N laws.points) (c.in_err-columns.ensures ∙ ap (passed T largest_column) (c.transposed-2.ensures (pos 0)))
     ∙ ap (after_rows T g.row.N laws.points) (c.in_ok-rows.ensures ∙ ap (passed T largest) (c.transposed.ensures (pos 0)))
     ∙ inverse_is T g.row.N laws.points laws.reads c.args.rescaled
 
 pub returns : goal.returns
 returns g c =
     let T = g.T.Transform.transform in let laws = g.met.T.Transform in
-    ap Some (c.rounded.ensures ∙ ap (λ m. block g.row.N (λ i j. shr_z (cells m i j +ℤ pos 32) 64)) (c.transposed-2.ensures (pos 0)))
-    ∙ ap (after_columns T g.row.N laws.points) c.in_ok-columns.ensures
+    ap Some c.rounded.ensures
+    ∙ ap (after_columns T g.row.N laws.points) (c.in_ok-columns.ensures ∙ ap (passed T largest_column) (c.transposed-2.ensures (pos 0)))
     ∙ ap (after_rows T g.row.N laws.points) (c.in_ok-rows.ensures ∙ ap (passed T largest) (c.transposed.ensures (pos 0)))
     ∙ inverse_is T g.row.N laws.points laws.reads c.args.rescaled

@@ -1,59 +1,44 @@
-use Rattle.std.proofs.Common.{refl, ◌∙◌}
-use Rattle.laws.specs.Blocks.{row}
+use Rattle.std.proofs.Common.{refl, ◌∙◌, rules}
 use Rattle.laws.proofs.Meant.{cons}
-use Rattle.transform4.proofs.FourLanes.{difference_sized, sum_room, difference_room}
+use Rattle.transform.proofs.Lines.{row_bounded, room, plus, minus}
 use Rattle.transform4.proofs.FourForward.{row0, row1, row2, row3}
 use Rattle.transform4.proofs.forward.forward_columns.Goals as goal
 
 -- s03 + s12
 pub sum-requires : goal.sum-requires
 sum-requires c =
-    let x = c.args.x in let p = c.requires in
-    record {
-      left = sum_room (row x 0) (row x 3) 2097152 2097152 c.sum-s03.ensures p.0 p.3 tt;
-      right = sum_room (row x 1) (row x 2) 2097152 2097152 c.sum-s12.ensures p.1 p.2 tt;
-    }
+    let x = row_bounded c.args.x c.requires in
+    (search rules, (room (plus c.sum-s03.ensures (x 0 tt) (x 3 tt)) tt, room (plus c.sum-s12.ensures (x 1 tt) (x 2 tt)) tt))
 
 -- 2 d03
 pub sum-requires-2 : goal.sum-requires-2
 sum-requires-2 c =
-    let x = c.args.x in let d = difference_room (row x 0) (row x 3) 2097152 2097152 c.difference-d03.ensures c.requires.0 c.requires.3 tt in
-    record { left = d; right = d }
+    let x = row_bounded c.args.x c.requires in let d03 = minus c.difference-d03.ensures (x 0 tt) (x 3 tt) in (search rules, (room d03 tt, room d03 tt))
 
 -- 2 d03 + d12
 pub sum-requires-3 : goal.sum-requires-3
 sum-requires-3 c =
-    let x = c.args.x in let p = c.requires in
-    let d03 = c.difference-d03.result in let d = difference_sized (row x 0) (row x 3) 2097152 2097152 c.difference-d03.ensures p.0 p.3 in
-    record {
-      left = sum_room d03 d03 4194304 4194304 c.sum-2.ensures d d tt;
-      right = difference_room (row x 1) (row x 2) 2097152 2097152 c.difference-d12.ensures p.1 p.2 tt;
-    }
+    let x = row_bounded c.args.x c.requires in
+    let d03 = minus c.difference-d03.ensures (x 0 tt) (x 3 tt) in
+    (search rules, (room (plus c.sum-2.ensures d03 d03) tt, room (minus c.difference-d12.ensures (x 1 tt) (x 2 tt)) tt))
 
 -- s03 - s12
 pub difference-requires : goal.difference-requires
 difference-requires c =
-    let x = c.args.x in let p = c.requires in
-    record {
-      left = sum_room (row x 0) (row x 3) 2097152 2097152 c.sum-s03.ensures p.0 p.3 tt;
-      right = sum_room (row x 1) (row x 2) 2097152 2097152 c.sum-s12.ensures p.1 p.2 tt;
-    }
+    let x = row_bounded c.args.x c.requires in
+    (search rules, (room (plus c.sum-s03.ensures (x 0 tt) (x 3 tt)) tt, room (plus c.sum-s12.ensures (x 1 tt) (x 2 tt)) tt))
 
 -- 2 d12
 pub sum-requires-4 : goal.sum-requires-4
 sum-requires-4 c =
-    let x = c.args.x in let d = difference_room (row x 1) (row x 2) 2097152 2097152 c.difference-d12.ensures c.requires.1 c.requires.2 tt in
-    record { left = d; right = d }
+    let x = row_bounded c.args.x c.requires in let d12 = minus c.difference-d12.ensures (x 1 tt) (x 2 tt) in (search rules, (room d12 tt, room d12 tt))
 
 -- d03 - 2 d12
 pub difference-requires-2 : goal.difference-requires-2
 difference-requires-2 c =
-    let x = c.args.x in let p = c.requires in
-    let d12 = c.difference-d12.result in let d = difference_sized (row x 1) (row x 2) 2097152 2097152 c.difference-d12.ensures p.1 p.2 in
-    record {
-      left = difference_room (row x 0) (row x 3) 2097152 2097152 c.difference-d03.ensures p.0 p.3 tt;
-      right = sum_room d12 d12 4194304 4194304 c.sum-4.ensures d d tt;
-    }
+    let x = row_bounded c.args.x c.requires in
+    let d12 = minus c.difference-d12.ensures (x 1 tt) (x 2 tt) in
+    (search rules, (room (minus c.difference-d03.ensures (x 0 tt) (x 3 tt)) tt, room (plus c.sum-4.ensures d12 d12) tt))
 
 pub returns : goal.returns
 returns c =

@@ -1,13 +1,10 @@
-use Rattle.std.proofs.Common.{true, false, ◌&&◌, Some, pos, sym, ap, ◌∙◌, ap₂, rules}
-use Rattle.laws.specs.Blocks.{transposed}
+use Rattle.std.proofs.Common.{true, false, ◌&&◌, [], ◌∷◌, Some, sym, ap, ◌∙◌, ap₂, rules}
+use Rattle.laws.specs.Widths.{largest}
+use Rattle.laws.specs.Four.{sums4, results4}
 use Rattle.laws.proofs.Steps.{split, fit_short}
-use Rattle.transform4.specs.Inner.{column_sums}
-use Rattle.transform4.proofs.FourLanes.{lines_sized}
-use Rattle.transform4.proofs.FourPass.{passed_is}
+use Rattle.transform.specs.Passes.{on_columns}
+use Rattle.transform.proofs.Stages.{all_fit, passed_is}
 use Rattle.transform4.proofs.inverse.passed_columns.Goals as goal
-
-pub sums-e-requires : goal.sums-e-requires
-sums-e-requires g c = lines_sized 32768 c.widened.result c.widened.ensures.size
 
 pub shortened-requires : goal.shortened-requires
 shortened-requires g c =
@@ -16,11 +13,15 @@ shortened-requires g c =
 
 pub returns-then-block_fits : goal.returns-then-block_fits
 returns-then-block_fits g c =
-    ap Some (c.transposed.ensures (pos 0) ∙ ap (transposed 4) c.shortened.ensures)
-    ∙ passed_is _ c.args.m c.sums-e.result c.results-g.result true (c.sums-e.ensures.value ∙ ap column_sums c.widened.ensures.value) c.results-g.ensures
-    (sym c.if-block_fits.true ∙ ap₂ ◌&&◌ c.block_fits.ensures c.block_fits-2.ensures)
+    let sums = c.sums-e.ensures.value ∙ ap (on_columns 4 sums4) c.widened.ensures.value in
+    let results = c.results-g.ensures ∙ ap (on_columns 4 results4) sums in
+    ap Some c.shortened.ensures
+    ∙ passed_is 4 _ (sums4 ∷ []) results4 c.args.m c.results-g.result true results
+    (sym c.if-block_fits.true ∙ ap₂ ◌&&◌ (c.block_fits.ensures ∙ ap (all_fit 4 largest) sums) (c.block_fits-2.ensures ∙ ap (all_fit 4 _) results))
 
 pub returns-else-block_fits : goal.returns-else-block_fits
 returns-else-block_fits g c =
-    passed_is _ c.args.m c.sums-e.result c.results-g.result false (c.sums-e.ensures.value ∙ ap column_sums c.widened.ensures.value) c.results-g.ensures
-    (sym c.if-block_fits.false ∙ ap₂ ◌&&◌ c.block_fits.ensures c.block_fits-2.ensures)
+    let sums = c.sums-e.ensures.value ∙ ap (on_columns 4 sums4) c.widened.ensures.value in
+    let results = c.results-g.ensures ∙ ap (on_columns 4 results4) sums in
+    passed_is 4 _ (sums4 ∷ []) results4 c.args.m c.results-g.result false results
+    (sym c.if-block_fits.false ∙ ap₂ ◌&&◌ (c.block_fits.ensures ∙ ap (all_fit 4 largest) sums) (c.block_fits-2.ensures ∙ ap (all_fit 4 _) results))

@@ -7,7 +7,7 @@ use Rattle.transform8.proofs.forward.forward_line.Goals as goal
 pub returns : goal.returns
 returns c =
     let x = c.args.x in
-    let s = c.sums-s.ensures.value in let d = c.differences-d.ensures.value in
+    let s = c.mirrored.ensures.sums in let d = c.mirrored.ensures.differences in
     same
     (to_z-of_z w32 c.dot.result (search rules) ∙ c.dot.ensures ∙ row0 x s)
     (to_z-of_z w32 c.dot-2.result (search rules) ∙ c.dot-2.ensures ∙ row1 x d)

@@ -1,47 +1,57 @@
-use Rattle.laws.proofs.Meant.{sum, difference, shifted, keep, fits, sized}
-use Rattle.transform8.proofs.EightLines.{line, same}
+use Rattle.std.proofs.Common.{[], ◌∷◌, rules}
+use Rattle.transform.proofs.Lines.{row_bounded, room, wider, plus, minus, part, rows_sized}
 use Rattle.transform8.proofs.inverse.sums.Goals as goal
 
 -- d5 - d3 - d7 - (d7 >> 1)
-pub overflow_sub-result-2 : goal.overflow_sub-result-2
-overflow_sub-result-2 c = let d = line c.args.d 32768 c.requires tt in fits (difference (keep (difference d.5 d.3) tt) d.7) tt
+pub difference-requires-2 : goal.difference-requires-2
+difference-requires-2 c =
+    let d = row_bounded c.args.d c.requires in (search rules, (room (minus c.difference.ensures (d 5 tt) (d 3 tt)) tt, room (d 7 tt) tt))
 
-pub overflow_sub-result-3 : goal.overflow_sub-result-3
-overflow_sub-result-3 c = let d = line c.args.d 32768 c.requires tt in fits (difference (keep (difference (keep (difference d.5 d.3) tt) d.7) tt) (shifted 2 d.7 tt)) tt
+pub difference-requires-3 : goal.difference-requires-3
+difference-requires-3 c =
+    let d = row_bounded c.args.d c.requires in
+    (search rules, (room (minus c.difference-2.ensures (minus c.difference.ensures (d 5 tt) (d 3 tt)) (d 7 tt)) tt, c.shifted.ensures.size))
 
 -- d1 + d7 - d3 - (d3 >> 1)
-pub overflow_sub-result-5 : goal.overflow_sub-result-5
-overflow_sub-result-5 c = let d = line c.args.d 32768 c.requires tt in fits (difference (keep (sum d.1 d.7) tt) d.3) tt
+pub difference-requires-5 : goal.difference-requires-5
+difference-requires-5 c =
+    let d = row_bounded c.args.d c.requires in (search rules, (room (plus c.sum-2.ensures (d 1 tt) (d 7 tt)) tt, room (d 3 tt) tt))
 
-pub overflow_sub-result-6 : goal.overflow_sub-result-6
-overflow_sub-result-6 c = let d = line c.args.d 32768 c.requires tt in fits (difference (keep (difference (keep (sum d.1 d.7) tt) d.3) tt) (shifted 2 d.3 tt)) tt
+pub difference-requires-6 : goal.difference-requires-6
+difference-requires-6 c =
+    let d = row_bounded c.args.d c.requires in
+    (search rules, (room (minus c.difference-5.ensures (plus c.sum-2.ensures (d 1 tt) (d 7 tt)) (d 3 tt)) tt, c.shifted-2.ensures.size))
 
 -- d7 - d1 + d5 + (d5 >> 1)
-pub overflow_add-result-3 : goal.overflow_add-result-3
-overflow_add-result-3 c = let d = line c.args.d 32768 c.requires tt in fits (sum (keep (difference d.7 d.1) tt) d.5) tt
+pub sum-requires-3 : goal.sum-requires-3
+sum-requires-3 c =
+    let d = row_bounded c.args.d c.requires in (search rules, (room (minus c.difference-8.ensures (d 7 tt) (d 1 tt)) tt, room (d 5 tt) tt))
 
-pub overflow_add-result-4 : goal.overflow_add-result-4
-overflow_add-result-4 c = let d = line c.args.d 32768 c.requires tt in fits (sum (keep (sum (keep (difference d.7 d.1) tt) d.5) tt) (shifted 2 d.5 tt)) tt
+pub sum-requires-4 : goal.sum-requires-4
+sum-requires-4 c =
+    let d = row_bounded c.args.d c.requires in
+    (search rules, (room (plus c.sum-3.ensures (minus c.difference-8.ensures (d 7 tt) (d 1 tt)) (d 5 tt)) tt, c.shifted-4.ensures.size))
 
 -- d3 + d5 + d1 + (d1 >> 1)
-pub overflow_add-result-7 : goal.overflow_add-result-7
-overflow_add-result-7 c = let d = line c.args.d 32768 c.requires tt in fits (sum (keep (sum d.3 d.5) tt) d.1) tt
+pub sum-requires-7 : goal.sum-requires-7
+sum-requires-7 c =
+    let d = row_bounded c.args.d c.requires in (search rules, (room (plus c.sum-6.ensures (d 3 tt) (d 5 tt)) tt, room (d 1 tt) tt))
 
-pub overflow_add-result-8 : goal.overflow_add-result-8
-overflow_add-result-8 c = let d = line c.args.d 32768 c.requires tt in fits (sum (keep (sum (keep (sum d.3 d.5) tt) d.1) tt) (shifted 2 d.1 tt)) tt
+pub sum-requires-8 : goal.sum-requires-8
+sum-requires-8 c =
+    let d = row_bounded c.args.d c.requires in
+    (search rules, (room (plus c.sum-7.ensures (plus c.sum-6.ensures (d 3 tt) (d 5 tt)) (d 1 tt)) tt, c.shifted-6.ensures.size))
 
-pub returns : goal.returns
-returns c =
-    let d = line c.args.d 32768 c.requires tt in
-    let e0 = keep (sum d.0 d.4) tt in
-    let e1 = keep (difference (keep (difference (keep (difference d.5 d.3) tt) d.7) tt) (shifted 2 d.7 tt)) tt in
-    let e2 = keep (difference d.0 d.4) tt in
-    let e3 = keep (difference (keep (difference (keep (sum d.1 d.7) tt) d.3) tt) (shifted 2 d.3 tt)) tt in
-    let e4 = keep (difference (shifted 2 d.2 tt) d.6) tt in
-    let e5 = keep (sum (keep (sum (keep (difference d.7 d.1) tt) d.5) tt) (shifted 2 d.5 tt)) tt in
-    let e6 = keep (sum d.2 (shifted 2 d.6 tt)) tt in
-    let e7 = keep (sum (keep (sum (keep (sum d.3 d.5) tt) d.1) tt) (shifted 2 d.1 tt)) tt in
-    record {
-      value = same e0.is e1.is e2.is e3.is e4.is e5.is e6.is e7.is;
-      size = (sized _ e0 tt, sized _ e1 tt, sized _ e2 tt, sized _ e3 tt, sized _ e4 tt, sized _ e5 tt, sized _ e6 tt, sized _ e7 tt);
-    }
+pub returns-clause-size : goal.returns-clause-size
+returns-clause-size c =
+    let d = row_bounded c.args.d c.requires in
+    let e0 = plus c.sum.ensures (d 0 tt) (d 4 tt) in
+    let e1 = minus c.difference-3.ensures (minus c.difference-2.ensures (minus c.difference.ensures (d 5 tt) (d 3 tt)) (d 7 tt)) (part 1 c.shifted.ensures.value (d 7 tt)) in
+    let e2 = minus c.difference-4.ensures (d 0 tt) (d 4 tt) in
+    let e3 = minus c.difference-6.ensures (minus c.difference-5.ensures (plus c.sum-2.ensures (d 1 tt) (d 7 tt)) (d 3 tt)) (part 1 c.shifted-2.ensures.value (d 3 tt)) in
+    let e4 = minus c.difference-7.ensures (part 1 c.shifted-3.ensures.value (d 2 tt)) (d 6 tt) in
+    let e5 = plus c.sum-4.ensures (plus c.sum-3.ensures (minus c.difference-8.ensures (d 7 tt) (d 1 tt)) (d 5 tt)) (part 1 c.shifted-4.ensures.value (d 5 tt)) in
+    let e6 = plus c.sum-5.ensures (d 2 tt) (part 1 c.shifted-5.ensures.value (d 6 tt)) in
+    let e7 = plus c.sum-8.ensures (plus c.sum-7.ensures (plus c.sum-6.ensures (d 3 tt) (d 5 tt)) (d 1 tt)) (part 1 c.shifted-6.ensures.value (d 1 tt)) in
+    rows_sized 8 131072 (c.sum.result ∷ c.difference-3.result ∷ c.difference-4.result ∷ c.difference-6.result ∷ c.difference-7.result ∷ c.sum-4.result ∷ c.sum-5.result ∷ c.sum-8.result ∷ [])
+    (wider 131072 e0 tt, (e1, (wider 131072 e2 tt, (e3, (wider 131072 e4 tt, (e5, (wider 131072 e6 tt, (e7, tt))))))))

@@ -1,0 +1,14 @@
+use Rattle.std.proofs.Common.{arith}
+use Rattle.laws.proofs.Meant.{sum, keep, fits}
+use Rattle.transform.proofs.Lines.{asked, given, long, lane}
+use Rattle.transform.proofs.lanes.sum.Goals as goal
+
+pub overflow_add-result : goal.overflow_add-result
+overflow_add-result g c =
+    asked _ _ g.row.N (long c.args.a _ (omega arith)) (long c.args.b _ (omega arith)) _
+    (λ k l. fits (sum (lane c.args.a 536870912 k (c.requires.left k l) tt) (lane c.args.b 536870912 k (c.requires.right k l) tt)) tt)
+
+pub returns : goal.returns
+returns g c =
+    given _ _ g.row.N (long c.args.a _ (omega arith)) (long c.args.b _ (omega arith)) _ _
+    (λ k l. (keep (sum (lane c.args.a 536870912 k (c.requires.left k l) tt) (lane c.args.b 536870912 k (c.requires.right k l) tt)) tt).is)
