@@ -1,9 +1,9 @@
 -- Arrays that were made element by element, as lists of a function of the index.
-use Rattle.std.proofs.Common.{◌≡◌, ℕ, zero, suc, ◌+◌, ◌<◌, ◌≤◌, List, get_or, sym, refl, ap, ◌∙◌, subst, inl, inr, eq-or-lt_of_le, arith}
+use Rattle.std.proofs.Common.{◌≡◌, ℕ, zero, suc, ◌+◌, ◌<◌, ◌≤◌, List, [], ◌∷◌, length, get_or, sym, refl, ap, ◌∙◌, subst, inl, inr, eq-or-lt_of_le, arith}
 use denote.Param.Members.{Mut, Called}
 use Rattle.std.specs.Fn.{Takes}
-use Rattle.std.specs.Array.{index_steps, IsFromFnResultFrom, IsFromFnResult, IsMapOf}
-use Rattle.std.specs.Iterator.{CallableAtEachTurn}
+use Rattle.std.specs.Array.{index_steps, list_steps, IsFromFnResultFrom, IsFromFnResult, IsMapOf}
+use Rattle.std.specs.Iterator.{CallableAtEachTurn, Yields}
 use Rattle.std.proofs.lemmas.Fn.{serves_by}
 use Rattle.laws.specs.Blocks.{from}
 use Rattle.laws.proofs.Lists.{from_is}
@@ -21,11 +21,6 @@ made {F = F} {B = B} g f ys n e h m calls = from_is h e n ys m.long (λ k l. go 
           | inl here ↦ ap (λ j. get_or ys j e) (sym here) ∙ r.2.1 e ∙ both.1 ∙ ap h here
           | inr after ↦ go k (i + 1) r.0 both.0 r.4 j (omega arith) (omega arith)
         ]
-
--- what holds of each answer
-pub each_made : {F B : Type 0} (g : Mut F (ℕ × Unit {0}) B) (f : F) (ys : List B) (n : ℕ) (e : B) (P : B → Type 0) → IsFromFnResult g f ys n
-    → ((p q : F) (i : ℕ) (y : B) → Called g p (i, tt) y q → P y) → (k : ℕ) → k < n → P (get_or ys k e)
-each_made g f ys n e P m calls k l = let c = m.at k e l in calls c.0 c.1 k _ c.2
 
 -- by `map`, whose calls answer h of the element
 pub mapped : {F A B : Type 0} (g : Mut F (A × Unit {0}) B) (f : F) (xs : List A) (ys : List B) (n : ℕ) (d : A) (e : B) (h : A → B) → IsMapOf g f xs ys n
@@ -45,3 +40,18 @@ callable {B = B} g f n same takes =
     (λ xs q x v e r. same x r.0 v (subst (λ q. Called g q (x, tt) r.0 v) e r.1))
     (index_steps n) (λ p x. Takes g p (x, tt)) 0 f refl
     (λ xs t q x u y s e. subst (λ q. Takes g q (x, tt)) (sym e) (takes x (omega (arith, s.0, s.1))))
+
+-- what `map` asks of f, where a call changes nothing
+pub callable_on : {F A B : Type 0} (g : Mut F (A × Unit {0}) B) (f : F) (xs : List A) (d : A) → ((x : A) (y : B) (q : F) → Called g f (x, tt) y q → q ≡ f)
+    → ((i : ℕ) → i < length xs → Takes g f (get_or xs i d, tt))
+    → CallableAtEachTurn list_steps (λ p x q. (y : B) × Called g p (x, tt) y q) (λ p x. Takes g p (x, tt)) xs f
+callable_on {A = A} {B = B} g f xs d same takes =
+    serves_by (λ p x q. (y : B) × Called g p (x, tt) y q) (λ ys q. q ≡ f)
+    (λ ys q x v e r. same x r.0 v (subst (λ q. Called g q (x, tt) r.0 v) e r.1))
+    list_steps (λ p x. Takes g p (x, tt)) xs f refl
+    (λ ys t q x u y s e. subst (λ q. Takes g q (x, tt)) (sym e) (go ys xs t x u takes y s))
+  where
+    go : (ys xs t : List A) (x : A) (u : List A) → ((i : ℕ) → i < length xs → Takes g f (get_or xs i d, tt)) → Yields list_steps xs ys t → t ≡ (x ∷ u) → Takes g f (x, tt)
+    go [] xs t x u h y s = subst (λ (l : List A). (i : ℕ) → i < length l → Takes g f (get_or l i d, tt)) (y ∙ s) h 0 (omega arith)
+    go (z ∷ ys) xs t x u h y s =
+        go ys y.0 t x u (λ i l. subst (λ (l : List A). (i : ℕ) → i < length l → Takes g f (get_or l i d, tt)) y.1 h (suc i) (omega arith)) y.2 s

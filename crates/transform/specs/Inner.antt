@@ -1,4 +1,4 @@
--- What inner functions ask of their callers.
+-- What functions of a block or a line ask of their callers, and tell them.
 use Rattle.std.specs.Prelude.{ℕ, ◌+◌, ◌*◌, ◌^◌, ◌<◌, ◌≤◌, List, ℤ, FitsSigned, unsigned_abs}
 use Rattle.std.specs.Int.{w16}
 use Rattle.laws.specs.Blocks.{at, row, cells}

@@ -1,11 +1,11 @@
 // Blocks of N by N numbers, as arrays of rows by value, and tiles in memory that hold one row by row.
-// Lines are made by the array's own `map` or `from_fn`. Blocks are made by `from_fn` alone: `map` moves each line twice, and
-// took twice the time for 8 by 8. That N is small stands in each contract: a bound could carry it, as the trait
+// Lines are made by the array's own `map` or `from_fn`, and blocks from blocks by `map`, but for `rounded`, whose line says why,
+// and `transposed`, which reads columns. That N is small stands in each contract: a bound could carry it, as the trait
 // Transform's `small` does, but would need a type parameter that no argument fixes.
 ghost use Rattle.std.specs.Prelude.{◌≡◌, ℕ, ◌+◌, ◌*◌, ◌<◌, ◌≤◌, length, pos, ◌+ℤ◌, FitsSigned, unsigned_abs};
 ghost use Rattle.std.specs.Int.{w16};
 ghost use Rattle.std.specs.Int.Signed.{shr_z};
-ghost use Rattle.laws.specs.Blocks.{at, from, row, cells, block, column as column_of, transposed as transposed_block, tile as tile_of, row_by_row};
+ghost use Rattle.laws.specs.Blocks.{at, from, row, cells, block, tile as tile_of, row_by_row};
 ghost use Rattle.laws.specs.Widths.{largest, within as is_within, fits as line_fits, every, held as held_line, all};
 ghost use Rattle.transform.specs.Columns.{cell_or, column_or};
 ghost use Rattle.transform.specs.Inner.{Sized, SizedLine, Short, ShortLine};
@@ -23,16 +23,10 @@ pub fn widened<const N: usize>(m: [[i16; N]; N]) -> [[i32; N]; N]
     ensures value { result ≡ block N (cells m.entry) }
     ensures size { Sized N 32768 result }
 {
-    array::from_fn(
-        |i|
-            requires { (i < N) × (N ≤ 16) }
-            ensures value { result ≡ from (cells m i) 0 N }
-            ensures size { SizedLine N 32768 result }
-        { wide(m[i]) },
-    )
+    m.map(wide)
 }
 
-pub fn wide<const N: usize>(line: [i16; N]) -> [i32; N]
+fn wide<const N: usize>(line: [i16; N]) -> [i32; N]
     requires { N ≤ 16 }
     ensures value { result ≡ from (at line.entry) 0 N }
     ensures size { SizedLine N 32768 result }
@@ -47,7 +41,7 @@ fn widen(x: i16) -> i32
     i32::from(x)
 }
 
-// (h + 32) >> 6, of each number
+// (h + 32) >> 6, of each number. Not by `map`: with it, a block of 8 by 8 takes 9 in 100 instructions more to reconstruct.
 pub fn rounded<const N: usize>(m: [[i16; N]; N]) -> [[i16; N]; N]
     requires { N ≤ 16 }
     ensures { result ≡ block N (λ i j. shr_z (cells m.entry i j +ℤ pos 32) 64) }
@@ -86,7 +80,8 @@ pub fn held<const N: usize>(m: [[i32; N]; N]) -> Option<[[i16; N]; N]>
 }
 
 // Whether each number lies in -32768..most. It looks at all of them: a test with no exit is quicker. Both tests are inlined:
-// in a pass they then stay in its vectors.
+// in a pass they then stay in its vectors. A loop each, as Exact has one: a closure for the test of one element would bring
+// a clause as long as the loop.
 #[inline(always)]
 pub fn block_fits<const N: usize>(m: &[[i32; N]; N], most: i32) -> bool
     ensures { result ≡ every (λ i. line_fits N most (row m.now i)) 0 N }
@@ -99,7 +94,7 @@ pub fn block_fits<const N: usize>(m: &[[i32; N]; N], most: i32) -> bool
 }
 
 #[inline(always)]
-pub fn line_fits<const N: usize>(line: &[i32; N], most: i32) -> bool
+fn line_fits<const N: usize>(line: &[i32; N], most: i32) -> bool
     ensures { result ≡ line_fits N most line.now }
 {
     let mut fits = true;
@@ -122,13 +117,7 @@ pub fn shortened<const N: usize>(m: [[i32; N]; N]) -> [[i16; N]; N]
     requires short { Short N m }
     ensures { result ≡ block N (cells m.entry) }
 {
-    array::from_fn(
-        |i|
-            requires small { (i < N) × (N ≤ 16) }
-            requires short { ShortLine N (row m i) }
-            ensures { result ≡ from (cells m i) 0 N }
-        { short(m[i]) },
-    )
+    m.map(short)
 }
 
 fn short<const N: usize>(line: [i32; N]) -> [i16; N]

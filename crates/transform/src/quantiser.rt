@@ -19,7 +19,7 @@ pub struct Quantiser {
 }
 
 impl Quantiser {
-    // The levels of row i of a block.
+    // The levels of row i of a block. Beside Rescaling's `rescaled`: each is one line, over its own numbers.
     pub fn levels<const N: usize>(&self, line: &[i32; N], i: usize) -> [i16; N]
         requires small { N ≤ 16 }
         requires room { Room N self.now.multipliers self.now.shift i line.now }
@@ -43,7 +43,7 @@ impl Quantiser {
         if coefficient < 0 { -size } else { size }
     }
 
-    // A product may take 64 bits.
+    // A product may leave 32 bits.
     fn size(&self, coefficient: u32, multiplier: u32) -> i16
         requires small { multiplier ≤ 32768 }
         requires room { coefficient * multiplier < 2 ^ (self.now.shift + 14) }

@@ -18,7 +18,7 @@ pub struct Rescaling {
 }
 
 impl Rescaling {
-    // The rescaled levels of row i of a block.
+    // The rescaled levels of row i of a block. Beside Quantiser's `levels`: each is one line, over its own numbers.
     pub fn rescaled<const N: usize>(&self, line: &[i16; N], i: usize) -> [i32; N]
         requires { N ≤ 16 }
         ensures { result ≡ from (λ j. stepped self.now.steps self.now.half self.now.shift i j (at line.now j)) 0 N }

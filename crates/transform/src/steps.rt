@@ -1,12 +1,12 @@
 // The steps of a block, for any transform: out to levels, and back to a residual.
 ghost use Rattle.std.specs.Prelude.{◌≡◌, ◌<◌, ◌≤◌};
-ghost use Rattle.laws.specs.Blocks.{at, from, row, cells, block};
+ghost use Rattle.laws.specs.Blocks.{from, row, cells, block};
 ghost use Rattle.laws.specs.Quantiser.{quantised};
 ghost use Rattle.laws.specs.Transform.{coefficients, levels, rescaled_block, inverse, reconstructed};
 ghost use Rattle.transform.specs.Pattern.{pattern_at, stepped};
 ghost use Rattle.transform.specs.Inner.{Room, Sized};
 
-use crate::block::{held, rounded, transposed, widened};
+use crate::block::{LARGEST, LARGEST_COLUMN, held, rounded, transposed, widened};
 use crate::quantiser::Quantiser;
 use crate::transform::Transform;
 use kinds::{Qp, Sort};
@@ -65,8 +65,8 @@ pub fn inverse_transform<T: Transform<N>, const N: usize>(
 ) -> Option<[[i16; N]; N]>
     ensures { result ≡ inverse T.transform rescaled.entry }
 {
-    let rows = T::pass_rows(transposed(rescaled))?;
-    let columns = T::pass_columns(transposed(rows))?;
+    let rows = T::pass_columns(transposed(rescaled), LARGEST)?;
+    let columns = T::pass_columns(transposed(rows), LARGEST_COLUMN)?;
     Some(rounded(columns))
 }
 

@@ -1,8 +1,8 @@
 // What a transform of N by N points has to give, so that the steps of a block can be written once for all of them.
-ghost use Rattle.std.specs.Prelude.{◌≡◌, ℕ, ◌+◌, ◌*◌, ◌/◌, ◌%◌, ◌^◌, ◌<◌, ◌≤◌, List, Some, ℤ, pos, ◌*ℤ◌, ◌-ℤ◌, unsigned_abs};
+ghost use Rattle.std.specs.Prelude.{◌≡◌, ℕ, ◌+◌, ◌*◌, ◌/◌, ◌%◌, ◌^◌, ◌<◌, ◌≤◌, List, Some, ℤ, pos, ◌*ℤ◌, ◌-ℤ◌, ◌≤ℤ◌, unsigned_abs};
 ghost use Rattle.kinds.specs.declared.kind.Sort.{Sort};
 ghost use Rattle.laws.specs.Blocks.{Grid, at, from, cells, block};
-ghost use Rattle.laws.specs.Widths.{largest, largest_column};
+ghost use Rattle.laws.specs.Widths.{largest};
 ghost use Rattle.laws.specs.Transform.{Transform, class_at, half_product, coefficients, levels, reconstructed};
 ghost use Rattle.transform.specs.Pattern.{pattern_at, AtMost, stepped};
 ghost use Rattle.transform.specs.Passes.{products, passed};
@@ -39,17 +39,14 @@ pub trait Transform<const N: usize> {
         requires { Sized N 2097152 x }
         ensures { result ≡ products transform x.entry };
 
-    // Every column passed, in its place, as the rows of a block pass: a result has 16 bits.
-    // Rows and columns have a method each, since a trait's method takes no const parameter.
-    fn pass_rows(m: [[i16; N]; N]) -> Option<[[i16; N]; N]>
-        ensures { result ≡ passed transform largest m.entry };
-
-    // Every column passed, in its place, where a result leaves room for the last rounding.
-    fn pass_columns(m: [[i16; N]; N]) -> Option<[[i16; N]; N]>
-        ensures { result ≡ passed transform largest_column m.entry };
+    // Every column passed, in its place. `bound` is the largest result allowed. That it has 16 bits stands in the clause: a type
+    // round it would be taken off at once.
+    fn pass_columns(m: [[i16; N]; N], bound: i32) -> Option<[[i16; N]; N]>
+        requires { bound ≤ℤ largest }
+        ensures { result ≡ passed transform bound m.entry };
 
     // How far a sample of a block may come back from the one that was coded.
-    // Each transform writes its own: weights and two constants are all that there is to it.
+    // Each transform writes its own: they differ in the weights, their number and two constants.
     fn distance(qp: Qp, sort: Sort) -> u32
         ensures { result ≡ limit qp sort };
 
@@ -57,6 +54,7 @@ pub trait Transform<const N: usize> {
 
     ghost points: { transform.points ≡ N };
 
+    // a pass reads the N numbers of its line, and no more
     ghost reads: { (most : ℤ) (line : List ℤ) → transform.pass most (from (at line) 0 N) ≡ transform.pass most line };
 
     ghost shift: { transform.shift ≡ SHIFT };

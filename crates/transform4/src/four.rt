@@ -1,7 +1,7 @@
 // The transform of 4 by 4 points.
-ghost use Rattle.std.specs.Prelude.{◌≡◌, ℕ, ◌/◌, ◌%◌, ◌<◌, ℤ, pos, ◌*ℤ◌, refl};
+ghost use Rattle.std.specs.Prelude.{◌≡◌, ℕ, ◌/◌, ◌%◌, ◌<◌, ℤ, pos, ◌*ℤ◌, ◌≤ℤ◌, refl};
 ghost use Rattle.std.proofs.Common.{lit≤};
-ghost use Rattle.laws.specs.Widths.{largest, largest_column};
+ghost use Rattle.laws.specs.Widths.{largest};
 ghost use Rattle.laws.specs.Transform.{class_at};
 ghost use Rattle.laws.specs.Four.{four, distance4, RecommendedRescaling as Recommended};
 ghost use Rattle.laws.proofs.Four.{products4, small4, near4};
@@ -14,7 +14,7 @@ use crate::inverse::passed_columns;
 use crate::tables::{factor_row, multiplier_row, pattern, steps};
 use kinds::{Qp, Sort};
 use laws::error_sixths;
-use transform::{LARGEST, LARGEST_COLUMN, Rescaling, Transform};
+use transform::{Rescaling, Transform};
 
 #[derive(Clone, Copy)]
 pub struct Four;
@@ -46,6 +46,7 @@ impl Transform<4> for Four {
         }
     }
 
+    // This method and the next repeat the trait's clauses: the check cannot give them these itself.
     fn multiply_columns(x: [[i32; 4]; 4]) -> [[i32; 4]; 4]
         requires { Sized 4 2097152 x }
         ensures { result ≡ products four x }
@@ -53,16 +54,13 @@ impl Transform<4> for Four {
         column_products(x)
     }
 
-    fn pass_rows(m: [[i16; 4]; 4]) -> Option<[[i16; 4]; 4]>
-        ensures { result ≡ passed four largest m }
+    // Inlined, as its pass is.
+    #[inline(always)]
+    fn pass_columns(m: [[i16; 4]; 4], bound: i32) -> Option<[[i16; 4]; 4]>
+        requires { bound ≤ℤ largest }
+        ensures { result ≡ passed four bound m }
     {
-        passed_columns::<LARGEST>(m)
-    }
-
-    fn pass_columns(m: [[i16; 4]; 4]) -> Option<[[i16; 4]; 4]>
-        ensures { result ≡ passed four largest_column m }
-    {
-        passed_columns::<LARGEST_COLUMN>(m)
+        passed_columns(m, bound)
     }
 
     // In 1536ths of a sample: the quantiser's error, each class by its weight in a sample, and 1344 for what the multipliers,

@@ -1,5 +1,5 @@
 // The inverse pass over columns, all of them side by side. It has no exit of its own: its sums cannot wrap in 32 bits, and
-// all of them are tested once at its end. Its stages are inlined: as calls, their blocks would go through memory.
+// all of them are tested once at its end. A pass and its stages are inlined: as calls, their blocks would go through memory.
 ghost use Rattle.std.specs.Prelude.{◌≡◌, ◌≤ℤ◌};
 ghost use Rattle.laws.specs.Widths.{largest};
 ghost use Rattle.laws.specs.Four.{four, sums4, results4};
@@ -8,15 +8,15 @@ ghost use Rattle.transform.specs.Inner.{Sized};
 
 use transform::{LARGEST, block_fits, difference, shifted, shortened, sum, widened};
 
-// Every column passed, in its place. MOST is the largest result allowed. As a constant it gives each pass an instance of
-// its own, which is inlined.
-pub fn passed_columns<const MOST: i32>(m: [[i16; 4]; 4]) -> Option<[[i16; 4]; 4]>
-    requires { MOST ≤ℤ largest }
-    ensures { result ≡ passed four MOST m }
+// Every column passed, in its place. `most` is the largest result allowed.
+#[inline(always)]
+pub fn passed_columns(m: [[i16; 4]; 4], most: i32) -> Option<[[i16; 4]; 4]>
+    requires { most ≤ℤ largest }
+    ensures { result ≡ passed four most m }
 {
     let e = sums(widened(m));
     let g = results(e);
-    if block_fits(&e, LARGEST) & block_fits(&g, MOST) {
+    if block_fits(&e, LARGEST) & block_fits(&g, most) {
         Some(shortened(g))
     } else {
         None

@@ -1,5 +1,5 @@
 // The tables, by QP mod 6, and the classes of their entries: places with both indices even, both odd, and the rest.
-ghost use Rattle.std.specs.Prelude.{◌≡◌, ◌*◌, ◌/◌, ◌%◌, ◌^◌, ◌≤◌, [], slice_index, slice_index_or};
+ghost use Rattle.std.specs.Prelude.{◌≡◌, ◌*◌, ◌/◌, ◌%◌, ◌^◌, [], slice_index, slice_index_or};
 ghost use Rattle.laws.specs.Blocks.{from};
 ghost use Rattle.laws.specs.Four.{v4, multipliers4, factors4};
 ghost use Rattle.transform4.specs.Inner.{pattern, Below3};

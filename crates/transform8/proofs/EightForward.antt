@@ -5,8 +5,8 @@ use Rattle.laws.specs.Blocks.{at, cells, from, column, dot}
 use Rattle.laws.specs.Eight.{forward8}
 use Rattle.laws.proofs.Linear.{dot_is}
 use Rattle.laws.proofs.Meant.{Meant, kept, known, product}
-use Rattle.transform.specs.Inner.{Sized as SizedBlock}
-use Rattle.transform8.specs.Inner.{Sized, Sized4, mirror_sums, mirror_differences}
+use Rattle.transform.specs.Inner.{Sized}
+use Rattle.transform8.specs.Inner.{Sized8, Sized4, mirror_sums, mirror_differences}
 use Rattle.transform8.proofs.EightLines.{each}
 
 -- ---- each row of C, by its left half
@@ -61,5 +61,5 @@ module _ (x c : List ℤ) (p : Sized4 4194304 x) (q : Sized4 12 c) where
   product3 = product (known (at c 3) 12 q.3 tt) (known (at x 3) 4194304 p.3 tt)
 
 -- a column of a block is a line
-pub column_sized : (n : ℕ) (x : List (List ℤ)) → SizedBlock 8 n x → (j : ℕ) → j < 8 → Sized n (column 8 x j)
+pub column_sized : (n : ℕ) (x : List (List ℤ)) → Sized 8 n x → (j : ℕ) → j < 8 → Sized8 n (column 8 x j)
 column_sized n x small j hj = each (λ i. nat_abs (cells x i j) ≤ n) (λ i hi. small i j hi hj)

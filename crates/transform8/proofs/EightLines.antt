@@ -2,7 +2,7 @@
 use Rattle.std.proofs.Common.{◌≡◌, ℕ, zero, suc, ◌<◌, ◌≤◌, List, [], ◌∷◌, ℤ, nat_abs, refl, arith, lit<}
 use Rattle.laws.specs.Blocks.{at}
 use Rattle.laws.proofs.Meant.{Meant, Small, kept, known, cons}
-use Rattle.transform8.specs.Inner.{Each, Sized}
+use Rattle.transform8.specs.Inner.{Each, Sized8}
 
 -- eight proofs as a function of the place, and back
 pub each_at : (P : ℕ → Type 0) → Each P → (i : ℕ) → i < 8 → P i
@@ -24,7 +24,7 @@ pub same : {A : Type 0} {a b c d e f g h a' b' c' d' e' f' g' h' : A}
     → (a ∷ b ∷ c ∷ d ∷ e ∷ f ∷ g ∷ h ∷ []) ≡ (a' ∷ b' ∷ c' ∷ d' ∷ e' ∷ f' ∷ g' ∷ h' ∷ [])
 same p q r s t u v w = cons p (cons q (cons r (cons s (cons t (cons u (cons v (cons w refl)))))))
 
-pub line : (d : List ℤ) (n : ℕ) → Sized n d → Small n → Each (λ i. Meant (kept (at d i)) (at d i) n)
+pub line : (d : List ℤ) (n : ℕ) → Sized8 n d → Small n → Each (λ i. Meant (kept (at d i)) (at d i) n)
 line d n p s =
     let one : (i : ℕ) → i < 8 → Meant (kept (at d i)) (at d i) n = λ i h. known (at d i) n (each_at (λ i. nat_abs (at d i) ≤ n) p i h) s in
     each (λ i. Meant (kept (at d i)) (at d i) n) one

@@ -7,8 +7,8 @@ abbrev pub Each : (ℕ → Type 0) → Type 0
 Each P = P 0 × P 1 × P 2 × P 3 × P 4 × P 5 × P 6 × P 7
 
 -- eight numbers, each at most n in size
-abbrev pub Sized : ℕ → List ℤ → Type 0
-Sized n d = Each (λ i. unsigned_abs (at d i) ≤ n)
+abbrev pub Sized8 : ℕ → List ℤ → Type 0
+Sized8 n d = Each (λ i. unsigned_abs (at d i) ≤ n)
 
 -- four numbers, each at most n in size
 abbrev pub Sized4 : ℕ → List ℤ → Type 0

@@ -1,7 +1,7 @@
 // The transform of 8 by 8 points.
-ghost use Rattle.std.specs.Prelude.{◌≡◌, refl};
+ghost use Rattle.std.specs.Prelude.{◌≡◌, ◌≤ℤ◌, refl};
 ghost use Rattle.std.proofs.Common.{lit≤};
-ghost use Rattle.laws.specs.Widths.{largest, largest_column};
+ghost use Rattle.laws.specs.Widths.{largest};
 ghost use Rattle.laws.specs.Eight.{eight, distance8};
 ghost use Rattle.laws.proofs.Eight.{products8, small8, near8};
 ghost use Rattle.transform.specs.Passes.{products, passed};
@@ -12,7 +12,7 @@ use crate::inverse::passed_columns;
 use crate::tables::{half_of, multiplier_row, pattern, steps, weighed_factors};
 use kinds::{Qp, Sort};
 use laws::error_sixths;
-use transform::{LARGEST, LARGEST_COLUMN, Rescaling, Transform};
+use transform::{Rescaling, Transform};
 
 #[derive(Clone, Copy)]
 pub struct Eight;
@@ -43,6 +43,7 @@ impl Transform<8> for Eight {
         }
     }
 
+    // This method and the next repeat the trait's clauses: the check cannot give them these itself.
     fn multiply_columns(x: [[i32; 8]; 8]) -> [[i32; 8]; 8]
         requires { Sized 8 2097152 x }
         ensures { result ≡ products eight x }
@@ -50,16 +51,13 @@ impl Transform<8> for Eight {
         column_products(x)
     }
 
-    fn pass_rows(m: [[i16; 8]; 8]) -> Option<[[i16; 8]; 8]>
-        ensures { result ≡ passed eight largest m }
+    // Inlined, as its pass is.
+    #[inline(always)]
+    fn pass_columns(m: [[i16; 8]; 8], bound: i32) -> Option<[[i16; 8]; 8]>
+        requires { bound ≤ℤ largest }
+        ensures { result ≡ passed eight bound m }
     {
-        passed_columns::<LARGEST>(m)
-    }
-
-    fn pass_columns(m: [[i16; 8]; 8]) -> Option<[[i16; 8]; 8]>
-        ensures { result ≡ passed eight largest_column m }
-    {
-        passed_columns::<LARGEST_COLUMN>(m)
+        passed_columns(m, bound)
     }
 
     // In 98304ths of a sample: the quantiser's error, each class by its weight in a sample, and 172032 for what the multipliers,

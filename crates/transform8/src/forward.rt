@@ -4,20 +4,20 @@ ghost use Rattle.std.specs.Prelude.{◌≡◌, ◌<◌};
 ghost use Rattle.laws.specs.Blocks.{at, from, column as column_of, dot as dot_of};
 ghost use Rattle.laws.specs.Eight.{eight};
 ghost use Rattle.transform.specs.Passes.{products};
-ghost use Rattle.transform.specs.Inner.{Sized as SizedBlock};
-ghost use Rattle.transform8.specs.Inner.{Sized, Sized4, mirror_sums, mirror_differences, forward_line};
+ghost use Rattle.transform.specs.Inner.{Sized};
+ghost use Rattle.transform8.specs.Inner.{Sized8, Sized4, mirror_sums, mirror_differences, forward_line};
 
 use std::array;
 use transform::column;
 
 // C times each column, as a row.
 pub fn column_products(x: [[i32; 8]; 8]) -> [[i32; 8]; 8]
-    requires { SizedBlock 8 2097152 x }
+    requires { Sized 8 2097152 x }
     ensures { result ≡ products eight x }
 {
     array::from_fn(
         |j|
-            requires { (j < 8) × Sized 2097152 (column_of 8 x j) }
+            requires { (j < 8) × Sized8 2097152 (column_of 8 x j) }
             ensures { result ≡ forward_line (column_of 8 x j) }
         { forward_line(column(&x, j)) },
     )
@@ -26,7 +26,7 @@ pub fn column_products(x: [[i32; 8]; 8]) -> [[i32; 8]; 8]
 // C times a line, by the left half of C. That the numbers are small stands here and in its parts: a type round
 // eight numbers would be taken off at once.
 fn forward_line(x: [i32; 8]) -> [i32; 8]
-    requires { Sized 2097152 x }
+    requires { Sized8 2097152 x }
     ensures { result ≡ forward_line x }
 {
     let (s, d) = mirrored(x);
@@ -44,7 +44,7 @@ fn forward_line(x: [i32; 8]) -> [i32; 8]
 
 // The sums of opposite inputs, and their differences.
 fn mirrored(x: [i32; 8]) -> ([i32; 4], [i32; 4])
-    requires { Sized 2097152 x }
+    requires { Sized8 2097152 x }
     ensures sums { result.0 ≡ mirror_sums x }
     ensures differences { result.1 ≡ mirror_differences x }
     ensures sums_small { Sized4 4194304 result.0 }

@@ -1,6 +1,6 @@
 // The 8 by 8 transform, as one of the transforms that the crate `transform` takes through its steps.
-// eight: the transform. tables: its multipliers, factors and classes. forward and inverse: its passes,
-// a column at a time.
+// eight: the transform. tables: its multipliers, factors and classes. forward: its pass, a column at a time.
+// inverse: its pass, over eight columns side by side.
 #![tactic(auto)]
 
 mod eight;
