@@ -1,5 +1,5 @@
 // The kind of a transform: a tile is one block.
-ghost use Rattle.std.specs.Prelude.{◌≡◌, ◌≤◌};
+ghost use Rattle.std.specs.Prelude.{◌≡◌};
 ghost use Rattle.laws.specs.Transformed.{block_kind, p4, p8};
 ghost use Rattle.laws.proofs.TileFacts.{kind_facts};
 

@@ -37,7 +37,7 @@ pub enum Refusal {
 }
 
 impl Refusal {
-    // For firmware, which knows a refusal by its number.
+    // For firmware, which knows a refusal by its number. A call with a name and no From: `refusal.number()` says what it gives.
     pub fn number(self) -> u8
         ensures { result ≡ number_of self }
     {

@@ -1,4 +1,5 @@
-// The rules of each call: the first that fits refuses it. They and their order stand in specs/Refusals.
+// The rules of each call: the first that fits refuses it. They and their order stand in specs/Refusals. Each call spells out
+// its own, as its list there does, also where another begins alike.
 ghost use Rattle.std.specs.Prelude.{◌≡◌, length, Ok, Err, if◌then◌else◌};
 ghost use Rattle.ends.specs.Refusals.{first_of, bad_side, bad_plane, tile_rules, open_refusal, code_refusal, restart_refusal, follow_refusal, resume_refusal};
 ghost use Rattle.ends.specs.Calls.{task_of};

@@ -32,7 +32,7 @@ impl Samples<'_> {
     {
         let edge = self.edge;
         let values = &mut *self.values;
-        // By number: after a loop over chunks_exact_mut the check knows no sample, and it covers no closure that is handed a chunk.
+        // By number: within a loop over chunks_exact_mut the check does not cover the call, and after one it knows no sample.
         for i in 0..edge {
             write(i, &mut values[i * edge..i * edge + edge]);
         }

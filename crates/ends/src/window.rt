@@ -1,4 +1,4 @@
-// A tile in its plane, which is lent. Nothing else knows how the samples of a plane are laid out.
+// A tile in its plane, which is lent. Nothing else in this crate knows how the samples of a plane are laid out.
 ghost use Rattle.std.specs.Prelude.{◌≡◌, ℕ, ◌+◌, ◌*◌, ◌<◌, ◌≤◌, length, slice_index};
 ghost use Rattle.ends.specs.Planes.{bytes, sample};
 ghost use Rattle.ends.specs.Tiles.{with_tile, reconstructed};

@@ -89,6 +89,8 @@ fn show_unit<W: fmt::Write>(
 fn show_plane<W: fmt::Write>(f: &mut fmt::Formatter<W>, size: Size, samples: &[u8]) -> fmt::Result {
     // A plane that was opened has a width, so the 1 is never used.
     let width = usize::from(size.width).max(1);
+    // By number, as below, to know the first, which nothing stands before. Two loops: what separates their elements differs, and
+    // how each is printed.
     for (i, row) in samples.chunks(width).enumerate() {
         if i > 0 {
             write!(f, "\n")?;

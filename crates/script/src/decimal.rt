@@ -32,7 +32,8 @@ impl Decimal for i16 {
     const RANGE: &'static str = "-32768 to 32767";
 }
 
-// The number that a word is in decimal; `name` is what a fault calls it. A sign in front can only be `-`.
+// The number that a word is in decimal; `name` is what a fault calls it. Not `parse` alone: it takes `+5` and does not name
+// what is wrong.
 pub fn number<T: Decimal>(word: &str, name: &'static str) -> Result<T, Fault> {
     match word.parse::<T>() {
         Ok(value) if !word.starts_with('+') => Ok(value),

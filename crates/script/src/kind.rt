@@ -22,8 +22,8 @@ impl FromStr for KindName {
     }
 }
 
-// Asks the kind that a name stands for. A macro, since no closure takes kinds of several types,
-// and a `dyn Kind` cannot be handed out.
+// Asks the kind that a name stands for. A macro: no closure takes kinds of several types, a `dyn Kind` cannot be handed out,
+// and a closure over one that is lent would have to say for each method which kind's meaning it is asked by.
 macro_rules! ask {
     ($name:expr, $kind:ident => $answer:expr) => {
         match $name {

@@ -59,6 +59,7 @@ impl KindAt {
     }
 }
 
+// Not Exact's test of its levels, though it asks the same: what a residual may be is a rule of all kinds.
 fn check_differences(residual: &[i16]) -> Result<(), Fault>
     ensures { OnOk result (Differences residual.now) }
 {
