@@ -1,8 +1,10 @@
 -- A pass in stages: one test of all columns at the end is as good as the tests of each column on its way.
-use Rattle.std.proofs.Common.{◌≡◌, ℕ, zero, suc, ◌+◌, ◌<◌, ◌≤◌, Bool, true, false, cond, ◌&&◌, List, [], ◌∷◌, ℤ, Some, None, Option, sym, refl, ap, ◌∙◌, ap₂, arith}
+use Rattle.std.proofs.Common.{◌≡◌, ℕ, zero, suc, ◌+◌, ◌<◌, ◌≤◌, Bool, true, false, cond, ◌&&◌, List, [], ◌∷◌, ℤ, Some, None, Option, sym, refl, ap, ◌∙◌, ap₂, arith, w32, SFits}
+use Rattle.std.proofs.lemmas.Int.{to_z-of_z}
 use Rattle.laws.specs.Blocks.{at, row, cells, from, block, column, transposed}
 use Rattle.laws.specs.Widths.{largest, within, every, fits, held, then, all}
 use Rattle.laws.proofs.Lists.{row_from, cells_block, from_same, block_same}
+use Rattle.laws.proofs.Meant.{kept}
 use Rattle.laws.proofs.Steps.{every_swap, then_cond, all_cond}
 use Rattle.transform.specs.Passes.{on_columns}
 
@@ -14,6 +16,10 @@ staged n most (f ∷ fs) last d = then (held n largest (f d)) (staged n most fs 
 -- every line of a block fits
 abbrev pub all_fit : (n : ℕ) (most : ℤ) → List (List ℤ) → Bool
 all_fit n most m = every (λ i. fits n most (row m i)) 0 n
+
+-- the same test, at a bound that was handed over in 32 bits
+pub fit_at : (n : ℕ) (most : ℤ) (m : List (List ℤ)) (b : Bool) → SFits w32 most → b ≡ all_fit n (kept most) m → b ≡ all_fit n most m
+fit_at n most m b f e = e ∙ ap (λ most. all_fit n most m) (to_z-of_z w32 most f)
 
 -- all columns side by side: their tests, and what they come to
 abbrev pub tests : (n : ℕ) (most : ℤ) → List (List ℤ → List ℤ) → (List ℤ → List ℤ) → List (List ℤ) → Bool

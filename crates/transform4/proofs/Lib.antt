@@ -1,2 +1,3 @@
+pub mod FourPass
 pub mod FourForward
 pub mod Classes
